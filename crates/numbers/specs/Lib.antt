@@ -1,0 +1,5 @@
+pub mod Binary32
+pub mod Points3
+pub mod Points4
+pub mod Root
+pub mod Normal

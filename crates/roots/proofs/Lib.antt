@@ -1,0 +1,3 @@
+mod Exactly
+mod Patterns
+mod Tallies
