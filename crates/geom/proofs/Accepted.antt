@@ -1,0 +1,206 @@
+-- What the acceptance of a mesh in memory gives: its lists are Well, as demand 3 asks, over the vertices handed in.
+-- Assumes nothing.
+use mathlib.Core.Path.{_≡_, refl, sym, subst, _∙_}
+use mathlib.Core.Bool.{Bool, true, false, not, _&&_, cond}
+use mathlib.Core.List.{List, [], _∷_, map}
+use Prim.Native.Nat.{ℕ, zero, suc, _+_, _*_, _/_, _≤_, _<_}
+use native.Mathlib.Nat.{le-div-iff-mul-le, suc-mul, mul-comm, zero-lt-suc, le-trans}
+use native.Mathlib.Omega.{arith}
+use lib.Dec.{T, eqb, leb, leb→le, ltb→lt}
+use lib.Ieee.Fits.{and-l, and-r}
+use lib.ListN.{length, take, drop, length-take, length-drop, length-append}
+use Rattle.geom.specs.declared.answer.Sizes.{Sizes}
+use Rattle.geom.specs.Book.{Kind, cubes, simplices}
+use Rattle.geom.specs.Elements.{Element, Curve, Lists}
+use Rattle.geom.specs.Ledger.{faceShape, volumeShape}
+use Rattle.geom.specs.Mesh.{Mesh}
+use Rattle.geom.specs.Answers.{accepted, refused, Due, firstDue}
+use Rattle.geom.specs.Memory.{Bench, cells, ElementRow, CurveRow, StepRow, Rows, firstOf, elementRow, rowsOf, areaCorners, volumeCorners, elementOf, curvesOf, meshOf}
+use Rattle.geom.specs.Refinement.{within}
+use Rattle.geom.specs.Refusals.{every, goodParity, goodNumber, curveLengths, countsHold, numbersHold, handedIn, Desk, benchesHold, refinementVerdict}
+use Rattle.geom.proofs.Lists.{All, all-map, all-append, all-of-map}
+use Rattle.geom.proofs.Well.{Below, Proper, Well}
+
+-- ---- tests that passed
+
+none-due : (ds : List Due) → firstDue ds ≡ accepted → All (λ (d : Due). d .due ≡ false) ds
+unfolding firstDue
+none-due [] e = tt
+none-due (d ∷ ds) e = go (none-due ds) (d .due) refl e
+  where
+    go : (firstDue ds ≡ accepted → All (λ (d : Due). d .due ≡ false) ds) → (b : Bool) → d .due ≡ b
+        → cond b (refused (d .number)) (firstDue ds) ≡ accepted → All (λ (d : Due). d .due ≡ false) (d ∷ ds)
+    go rest true q f = let z : _≡_ {A = ℕ} 0 1 = cc in absurd (omega arith)
+    go rest false q f = (q, rest f)
+
+holds : (b : Bool) → not b ≡ false → T b
+holds true e = tt
+holds false e = subst T e tt
+
+every-holds : {A : Type 0} (test : A → Bool) (xs : List A) → T (every test xs) → All (λ (x : A). T (test x)) xs
+unfolding every
+every-holds test [] t = tt
+every-holds test (x ∷ xs) t = (and-l (test x) (every test xs) t, every-holds test xs (and-r (test x) (every test xs) t))
+
+-- ---- rows
+
+pub length-firstOf : {A : Type 0} (at : ℕ → A) (n : ℕ) → length (firstOf at n) ≡ n
+unfolding firstOf
+length-firstOf at zero = refl
+length-firstOf at (suc n) = simp (length-append, length-firstOf at n) (omega arith)
+
+all-firstOf : {A : Type 0} (P : A → Type 0) (at : ℕ → A) (n : ℕ) → ((i : ℕ) → i < n → P (at i)) → All P (firstOf at n)
+unfolding firstOf
+all-firstOf P at zero f = tt
+all-firstOf P at (suc n) f = all-append P (firstOf at n) (at n ∷ []) (all-firstOf P at n (λ i h. f i (omega arith))) (f n (omega arith), tt)
+
+all-both : {A : Type 0} (P Q : A → Type 0) (xs : List A) → All P xs → All Q xs → All (λ (x : A). P x × Q x) xs
+all-both P Q [] p q = tt
+all-both P Q (x ∷ xs) p q = ((p .0, q .0), all-both P Q xs (p .1) (q .1))
+
+all-take : {A : Type 0} (P : A → Type 0) (n : ℕ) (xs : List A) → All P xs → All P (take n xs)
+all-take P zero xs a = tt
+all-take P (suc n) [] a = tt
+all-take P (suc n) (x ∷ xs) a = (a .0, all-take P n xs (a .1))
+
+all-drop : {A : Type 0} (P : A → Type 0) (n : ℕ) (xs : List A) → All P xs → All P (drop n xs)
+all-drop P zero xs a = a
+all-drop P (suc n) [] a = tt
+all-drop P (suc n) (x ∷ xs) a = all-drop P n xs (a .1)
+
+-- a row that lies whole within the words has all its corners
+row-long : (corners i : ℕ) (words : List ℕ) → i < length words / suc corners → length (elementRow corners words i .corners) ≡ corners
+unfolding elementRow
+row-long corners i words h =
+    let l : suc i * suc corners ≤ length words = le-div-iff-mul-le (zero-lt-suc corners) .0 h in
+    simp (length-take, length-drop) (omega (arith, suc-mul i (suc corners), mul-comm (suc corners) i))
+
+-- numbers that were judged are below the count
+below : (n : ℕ) (xs : List ℕ) → T (every (goodNumber n) xs) → Below n xs
+unfolding goodNumber
+below n xs t = all-map (λ x u. ltb→lt x n u) xs (every-holds (goodNumber n) xs t)
+
+elements-proper :
+    (n corners count : ℕ) (words : List ℕ) → count ≤ length words / suc corners
+    → T (every (λ (e : ElementRow). every (goodNumber n) (e .corners)) (firstOf (elementRow corners words) count))
+    → All (Proper n corners) (map elementOf (firstOf (elementRow corners words) count))
+unfolding elementOf
+elements-proper n corners count words room good =
+    let rows = firstOf (elementRow corners words) count in
+    let Long : ElementRow → Type 0 = λ r. length (r .corners) ≡ corners in
+    let Judged : ElementRow → Type 0 = λ r. T (every (goodNumber n) (r .corners)) in
+    all-of-map (Proper n corners) elementOf rows
+    (all-map (λ r f. record { long = f .0; below = below n (r .corners) (f .1) }) rows
+    (all-both Long Judged rows
+    (all-firstOf Long (elementRow corners words) count (λ i h. row-long corners i words (omega arith)))
+    (every-holds (λ (r : ElementRow). every (goodNumber n) (r .corners)) rows good)))
+
+curves-below :
+    (n : ℕ) (cs : List CurveRow) (steps : List StepRow) → All (λ (s : StepRow). s .vertex < n) steps
+    → All (λ (c : Curve). Below n (c .vertices)) (curvesOf cs steps)
+unfolding curvesOf
+curves-below n [] steps a = tt
+curves-below n (c ∷ cs) steps a =
+    let Low : StepRow → Type 0 = λ s. s .vertex < n in (
+      all-of-map (λ (v : ℕ). v < n) (λ (s : StepRow). s .vertex) (take (c .count) steps) (all-take Low (c .count) steps a),
+      curves-below n cs (drop (c .count) steps) (all-drop Low (c .count) steps a),
+    )
+
+steps-below : (n : ℕ) (steps : List StepRow) → T (every (λ (s : StepRow). goodNumber n (s .vertex)) steps) → All (λ (s : StepRow). s .vertex < n) steps
+unfolding goodNumber
+steps-below n steps t = all-map (λ s u. ltb→lt (s .vertex) n u) steps (every-holds (λ (s : StepRow). goodNumber n (s .vertex)) steps t)
+
+-- ---- the whole mesh
+
+-- of the counts that are within others, those that the elements need
+record Rooms (s t : Sizes) : Type 0 where
+  lines : s .lines ≤ t .lines
+  areas : s .areas ≤ t .areas
+  volumes : s .volumes ≤ t .volumes
+
+rooms : (s t : Sizes) → T (within s t) → Rooms s t
+unfolding within
+rooms s t h =
+    let vp = leb (s .vertices) (t .vertices) && leb (s .points) (t .points) in
+    let l = leb (s .lines) (t .lines) in
+    let a = leb (s .areas) (t .areas) in
+    let v = leb (s .volumes) (t .volumes) in
+    let c = leb (s .curves) (t .curves) in
+    let w = leb (s .«curve_vertices») (t .«curve_vertices») in
+    let h-v = and-l (vp && l && a && v) c (and-l (vp && l && a && v && c) w h) in
+    let h-a = and-l (vp && l && a) v h-v in
+    record {
+      lines = leb→le (s .lines) (t .lines) (and-r vp l (and-l (vp && l) a h-a));
+      areas = leb→le (s .areas) (t .areas) (and-r (vp && l) a h-a);
+      volumes = leb→le (s .volumes) (t .volumes) (and-r (vp && l && a) v h-v);
+    }
+
+-- what refusal 7 judges
+record Numbers (n : ℕ) (r : Rows) : Type 0 where
+  lines : T (every (λ (e : ElementRow). every (goodNumber n) (e .corners)) (r .lines))
+  areas : T (every (λ (e : ElementRow). every (goodNumber n) (e .corners)) (r .areas))
+  volumes : T (every (λ (e : ElementRow). every (goodNumber n) (e .corners)) (r .volumes))
+  steps : T (every (λ (s : StepRow). goodNumber n (s .vertex)) (r .curveVertices))
+
+numbers : (n : ℕ) (r : Rows) → T (numbersHold n r) → Numbers n r
+unfolding numbersHold
+numbers n r h =
+    let inside : ElementRow → Bool = λ e. every (goodNumber n) (e .corners) in
+    let p = every (goodNumber n) (r .points) in
+    let l = every inside (r .lines) in
+    let a = every inside (r .areas) in
+    let v = every inside (r .volumes) in
+    let c = every (λ (s : StepRow). goodNumber n (s .vertex)) (r .curveVertices) in
+    let h-v = and-l (p && l && a && v) c h in
+    let h-a = and-l (p && l && a) v h-v in
+    record {
+      lines = and-r p l (and-l (p && l) a h-a);
+      areas = and-r (p && l) a h-a;
+      volumes = and-r (p && l && a) v h-v;
+      steps = and-r (p && l && a && v) c h;
+    }
+
+-- the corner counts of memory's rows are those of the shapes
+area-corners : (kind : Kind) → areaCorners kind ≡ faceShape kind .count
+area-corners cubes = refl
+area-corners simplices = refl
+
+volume-corners : (kind : Kind) → volumeCorners kind ≡ volumeShape kind .count
+volume-corners cubes = refl
+volume-corners simplices = refl
+
+-- lists whose counts hold and whose numbers were judged
+judged :
+    (kind : Kind) (s : Sizes) (b : Bench) → T (within s (cells kind b)) → T (numbersHold (s .vertices) (rowsOf kind s b))
+    → Well kind (s .vertices) (meshOf (rowsOf kind s b) .lists)
+unfolding cells rowsOf meshOf
+judged kind s b room good =
+    let n = s .vertices in
+    let q = rooms s (cells kind b) room in
+    let g = numbers n (rowsOf kind s b) good in
+    let steps = rowsOf kind s b .curveVertices in
+    record {
+      lines = elements-proper n 2 (s .lines) (b .lines) (q .lines) (g .lines);
+      areas = subst (λ (k : ℕ). All (Proper n k) (map elementOf (rowsOf kind s b .areas))) (area-corners kind) (elements-proper n (areaCorners kind) (s .areas) (b .areas) (q .areas) (g .areas));
+      volumes = subst (λ (k : ℕ). All (Proper n k) (map elementOf (rowsOf kind s b .volumes))) (volume-corners kind) (elements-proper n (volumeCorners kind) (s .volumes) (b .volumes) (q .volumes) (g .volumes));
+      curves = curves-below n (rowsOf kind s b .curves) steps (steps-below n steps (g .steps));
+    }
+
+-- the vertices are as many as are stated
+pub vertex-count : (kind : Kind) (s : Sizes) (b : Bench) → length (meshOf (rowsOf kind s b) .vertices) ≡ s .vertices
+unfolding rowsOf meshOf
+vertex-count kind s b = length-firstOf _ (s .vertices)
+
+pub accepted-well :
+    (kind : Kind) (s : Sizes) (d : Desk) (time : ℕ) → refinementVerdict kind s d time ≡ accepted
+    → let mesh = meshOf (rowsOf kind s (d .first)) in
+    Well kind (length (mesh .vertices)) (mesh .lists)
+unfolding refinementVerdict handedIn countsHold
+accepted-well kind s d time e =
+    let r = rowsOf kind s (d .first) in
+    let room = within s (cells kind (d .first)) in
+    let sum = eqb (curveLengths (r .curves)) (s .«curve_vertices») in
+    let none = none-due (handedIn (benchesHold kind d) (goodParity time) kind s (d .first)) e in
+    let nine = holds (room && sum && benchesHold kind d) (none .0) in
+    let seven = holds (numbersHold (s .vertices) r) (none .1 .1 .1 .0) in
+    rw vertex-count (judged kind s (d .first) (and-l room sum (and-l (room && sum) (benchesHold kind d) nine)) seven)

@@ -1,0 +1,53 @@
+-- What a refinement leaves: the state after as many passes as it counts, whose lists and book are those of the list rules alone.
+-- Assumes nothing.
+use mathlib.Core.Path.{_≡_, refl, ap, _∙_}
+use mathlib.Core.Bool.{Bool, true, false, cond}
+use Prim.Native.Nat.{ℕ, zero, suc}
+use lib.ListN.{length}
+use Rattle.geom.specs.Book.{Kind}
+use Rattle.geom.specs.Rules.{Went}
+use Rattle.geom.specs.Passes.{pass, passes}
+use Rattle.geom.specs.Mesh.{Mesh}
+use Rattle.geom.specs.Refinement.{State, passOver, begun, stateAfter, Lent, fits, Run, runFrom, run}
+
+-- the lists and the book of a state
+abbrev pub went : State → Went
+went s = record { lists = s .mesh .lists; book = s .book }
+
+-- n passes over a mesh are n passes over its lists
+pub went-after : (kind : Kind) (time : Bool) (mesh : Mesh) (n : ℕ)
+    → went (stateAfter kind time mesh n) ≡ passes kind (length (mesh .vertices)) (mesh .lists) n
+unfolding stateAfter passes passOver
+went-after kind time mesh zero = refl
+went-after kind time mesh (suc n) = ap (pass kind (length (mesh .vertices))) (went-after kind time mesh n)
+
+-- which of two runs a test takes makes no difference to that
+either : (after : ℕ → State) (b : Bool) (x y : Run) → x .left ≡ after (x .passes) → y .left ≡ after (y .passes)
+    → cond b x y .left ≡ after (cond b x y .passes)
+either after true x y p q = p
+either after false x y p q = q
+
+-- a run that goes on after n passes leaves the state after the passes that it counts
+run-on : (kind : Kind) (time : Bool) (lent : Lent) (mesh : Mesh) (depth n : ℕ)
+    → let r = runFrom kind time lent (length (mesh .vertices)) depth n (stateAfter kind time mesh n) in
+    r .left ≡ stateAfter kind time mesh (r .passes)
+unfolding runFrom stateAfter
+run-on kind time lent mesh zero n = refl
+run-on kind time lent mesh (suc depth) n =
+    either (stateAfter kind time mesh) (fits lent (stateAfter kind time mesh (suc n))) _ _
+    (run-on kind time lent mesh depth (suc n)) refl
+
+-- the mesh left is the mesh after the passes counted
+pub run-left : (kind : Kind) (time : Bool) (lent : Lent) (depth : ℕ) (mesh : Mesh)
+    → let r = run kind time lent depth mesh in
+    r .left ≡ stateAfter kind time mesh (r .passes)
+unfolding run stateAfter
+run-left kind time lent depth mesh = run-on kind time lent mesh depth 0
+
+-- its lists and its book are those that so many passes make from the lists handed in
+pub run-lists : (kind : Kind) (time : Bool) (lent : Lent) (depth : ℕ) (mesh : Mesh)
+    → let r = run kind time lent depth mesh in
+    went (r .left) ≡ passes kind (length (mesh .vertices)) (mesh .lists) (r .passes)
+run-lists kind time lent depth mesh =
+    let r = run kind time lent depth mesh in
+    ap went (run-left kind time lent depth mesh) ∙ went-after kind time mesh (r .passes)

@@ -1,0 +1,22 @@
+-- The cases that document 01 marks, computed.
+pub mod Marked
+-- Demand 3 over the definitions, from the ground up; the claims for any number of passes are in Demand3,
+pub mod Lists
+pub mod Integers
+pub mod Sums
+pub mod Spread
+pub mod Chains
+pub mod Books
+pub mod Refining
+pub mod Flats
+pub mod Cells
+pub mod Well
+pub mod Steps
+pub mod Corners
+pub mod Closing
+pub mod Recovery
+pub mod Demand3
+-- and in Refined those for every accepted mesh, every depth and every lending.
+pub mod Left
+pub mod Accepted
+pub mod Refined

@@ -1,0 +1,73 @@
+-- Document 01, refusals: what an entry's answer says. For each case of the enums `Ended` and `Opened` this gives the paper's number, or none, and the kind.
+-- Says nothing of when a number is due (Refinement, Refusals, File).
+-- Assumes nothing.
+use mathlib.Core.Bool.{Bool, cond}
+use mathlib.Core.List.{List, [], _∷_}
+use Prim.Native.Nat.{ℕ}
+use Rattle.geom.specs.declared.answer.Sizes.{Sizes}
+use Rattle.geom.specs.declared.answer.Ended.{Ended}
+use Rattle.geom.specs.declared.answer.Ended.the-variants.{Finished, Refused}
+use Rattle.geom.specs.declared.answer.Refined.{Refined}
+use Rattle.geom.specs.declared.answer.Answer.{Answer}
+use Rattle.geom.specs.declared.answer.Opened.{Opened}
+use Rattle.geom.specs.declared.answer.Opened.the-variants as O
+use Rattle.geom.specs.declared.answer.Reading.{Reading}
+use Rattle.geom.specs.Book.{Kind, cubes, simplices}
+
+-- no refusal, or the refusal with its number
+pub data Verdict : Type 0 where
+  accepted : Verdict
+  refused : ℕ → Verdict
+
+-- how it ended: finished, or refused with its number
+unfoldable pub verdictOf : Ended → Verdict
+verdictOf Finished = accepted
+verdictOf (Refused n) = refused n
+
+-- A refinement's answer is a record: passes, sizes and how it ended.
+pub record Told : Type 0 where
+  pub passes : ℕ
+  pub sizes : Sizes
+  pub verdict : Verdict
+
+unfoldable pub told : Refined → Told
+told r = record { passes = r .passes; sizes = r .sizes; verdict = verdictOf (r .ended) }
+
+-- the answer of triangulation: sizes, and how it ended
+pub record Outcome : Type 0 where
+  pub sizes : Sizes
+  pub verdict : Verdict
+
+unfoldable pub outcomeOf : Answer → Outcome
+outcomeOf a = record { sizes = a .sizes; verdict = verdictOf (a .ended) }
+
+-- how reading a file ended: with a mesh of a kind, or refused with its number
+pub data Judgement : Type 0 where
+  meshOfKind : Kind → Judgement
+  noMesh : ℕ → Judgement
+
+unfoldable pub judgementOf : Opened → Judgement
+judgementOf O.Cubes = meshOfKind cubes
+judgementOf O.Simplices = meshOfKind simplices
+judgementOf (O.Refused n) = noMesh n
+
+-- the answer of reading: sizes, and how it ended
+pub record Opening : Type 0 where
+  pub sizes : Sizes
+  pub judgement : Judgement
+
+unfoldable pub openingOf : Reading → Opening
+openingOf r = record { sizes = r .sizes; judgement = judgementOf (r .opened) }
+
+-- one refusal, and whether it is due
+pub record Due : Type 0 where
+  pub due : Bool
+  pub number : ℕ
+
+abbrev pub due : ℕ → Bool → Due
+due number b = record { due = b; number = number }
+
+-- the first that is due
+unfoldable pub firstDue : List Due → Verdict
+firstDue [] = accepted
+firstDue (d ∷ ds) = cond (d .due) (refused (d .number)) (firstDue ds)

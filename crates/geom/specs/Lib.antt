@@ -1,0 +1,25 @@
+-- Document 01 as definitions. Read in this order: the list rules and the ledger,
+pub mod Parity
+pub mod Book
+pub mod Elements
+pub mod Rules
+pub mod Simplices
+pub mod Cubes
+pub mod Passes
+pub mod Ledger
+-- the vertex rules, and the refinement of a whole mesh,
+pub mod Vertices
+pub mod Mesh
+pub mod Smoothing
+pub mod Answers
+pub mod Refinement
+-- a mesh in memory, and what is refused
+pub mod Memory
+pub mod Refusals
+-- what else is done with a mesh
+pub mod Triangulation
+pub mod Normals
+-- the file, the listing, and the program
+pub mod File
+pub mod Listing
+pub mod Sheet

@@ -1,0 +1,4 @@
+// The types that every crate of the engine shares. The definitions of document 01 stand in specs/, the laws in proofs/.
+pub mod answer;
+pub mod parity;
+pub mod vertex;
