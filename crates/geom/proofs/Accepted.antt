@@ -1,19 +1,18 @@
 -- What the acceptance of a mesh in memory gives: its lists are Well, as demand 3 asks, over the vertices handed in.
 -- Assumes nothing.
-use mathlib.Core.Path.{_≡_, refl, sym, subst, _∙_}
+use mathlib.Core.Path.{_≡_, refl, subst}
 use mathlib.Core.Bool.{Bool, true, false, not, _&&_, cond}
 use mathlib.Core.List.{List, [], _∷_, map}
-use Prim.Native.Nat.{ℕ, zero, suc, _+_, _*_, _/_, _≤_, _<_}
-use native.Mathlib.Nat.{le-div-iff-mul-le, suc-mul, mul-comm, zero-lt-suc, le-trans}
+use Prim.Native.Nat.{ℕ, zero, suc, _*_, _/_, _≤_, _<_}
+use native.Mathlib.Nat.{le-div-iff-mul-le, suc-mul, mul-comm, zero-lt-suc}
 use native.Mathlib.Omega.{arith}
 use lib.Dec.{T, eqb, leb, leb→le, ltb→lt}
 use lib.Ieee.Fits.{and-l, and-r}
 use lib.ListN.{length, take, drop, length-take, length-drop, length-append}
 use Rattle.geom.specs.declared.answer.Sizes.{Sizes}
 use Rattle.geom.specs.Book.{Kind, cubes, simplices}
-use Rattle.geom.specs.Elements.{Element, Curve, Lists}
+use Rattle.geom.specs.Elements.{Curve}
 use Rattle.geom.specs.Ledger.{faceShape, volumeShape}
-use Rattle.geom.specs.Mesh.{Mesh}
 use Rattle.geom.specs.Answers.{accepted, refused, Due, firstDue}
 use Rattle.geom.specs.Memory.{Bench, cells, ElementRow, CurveRow, StepRow, Rows, firstOf, elementRow, rowsOf, areaCorners, volumeCorners, elementOf, curvesOf, meshOf}
 use Rattle.geom.specs.Refinement.{within}

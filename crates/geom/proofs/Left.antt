@@ -6,9 +6,9 @@ use Prim.Native.Nat.{ℕ, zero, suc}
 use lib.ListN.{length}
 use Rattle.geom.specs.Book.{Kind}
 use Rattle.geom.specs.Rules.{Went}
-use Rattle.geom.specs.Passes.{pass, passes}
+use Rattle.geom.specs.Passes.{pass, passes, listsAfter, bookAfter}
 use Rattle.geom.specs.Mesh.{Mesh}
-use Rattle.geom.specs.Refinement.{State, passOver, begun, stateAfter, Lent, fits, Run, runFrom, run}
+use Rattle.geom.specs.Refinement.{State, passOver, stateAfter, Lent, fits, Run, runFrom, run}
 
 -- the lists and the book of a state
 abbrev pub went : State → Went
@@ -47,7 +47,9 @@ run-left kind time lent depth mesh = run-on kind time lent mesh depth 0
 -- its lists and its book are those that so many passes make from the lists handed in
 pub run-lists : (kind : Kind) (time : Bool) (lent : Lent) (depth : ℕ) (mesh : Mesh)
     → let r = run kind time lent depth mesh in
-    went (r .left) ≡ passes kind (length (mesh .vertices)) (mesh .lists) (r .passes)
+    (r .left .mesh .lists ≡ listsAfter kind (length (mesh .vertices)) (mesh .lists) (r .passes))
+    × (r .left .book ≡ bookAfter kind (length (mesh .vertices)) (mesh .lists) (r .passes))
 run-lists kind time lent depth mesh =
     let r = run kind time lent depth mesh in
-    ap went (run-left kind time lent depth mesh) ∙ went-after kind time mesh (r .passes)
+    let same = ap went (run-left kind time lent depth mesh) ∙ went-after kind time mesh (r .passes) in
+    (ap (λ (w : Went). w .lists) same, ap (λ (w : Went). w .book) same)

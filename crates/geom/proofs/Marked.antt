@@ -94,12 +94,12 @@ example = mesh (vertex 0 0 ∷ vertex 8 0 ∷ []) (even ((0 ∷ 1 ∷ []) ∷ []
 
 -- the bit pattern of a number
 pub bits : Float → ℕ
-unfolding Ieee.toBits Ieee.ofBits Ieee.ofFields Ieee.size Ieee.units Ieee.odd Ieee.round Ieee.add Ieee.sum Ieee.mul Ieee.div Ieee.ofInt Ieee.le Ieee.lt Ieee.eq
+unfolding Ieee.toBits Ieee.ofBits Ieee.add Ieee.mul Ieee.div Ieee.ofInt Ieee.le
 bits = Ieee.toBits binary32
 
 -- refined with every list lent to the limit, without smooth_time
 pub refined : Kind → ℕ → Mesh → Run
-unfolding Points4.sum Points4.scaled Points4.quotient Points4.midpoint Points4.origin Points4.added Points4.mean Points4.columns Book.find Book.seek Book.midpoint Book.each Book.place Book.mids Elements.pick Elements.pairsOf Elements.shut Elements.flat Elements.pieces Elements.assemble Rules.line Rules.divide Rules.steps Rules.between Rules.doubled Rules.curve Rules.passBy Simplices.triangle Simplices.tetrahedron Simplices.simplexPass Cubes.square Cubes.cube Cubes.cubePass Vertices.flagged Vertices.strand Vertices.midpointVertex Vertices.pairVertex Mesh.curveVertices Mesh.sizesOf Smoothing.withMidpoints Smoothing.columnRule Smoothing.cubeRule Smoothing.nothing Smoothing.ignored Smoothing.update Smoothing.toCorners Smoothing.gather Smoothing.gathered Smoothing.replaced Smoothing.moved Smoothing.settled Smoothing.settledFrom Smoothing.smoothed Refinement.passOver Refinement.within Refinement.fits Refinement.runFrom Refinement.run
+unfolding Points4.sum Points4.scaled Points4.quotient Points4.midpoint Points4.origin Points4.added Points4.mean Points4.columns Book.find Book.seek Book.midpoint Book.each Book.place Book.mids Elements.pick Elements.pairsOf Elements.shut Elements.flat Elements.pieces Elements.assemble Rules.line Rules.divide Rules.steps Rules.between Rules.curve Rules.passBy Simplices.triangle Simplices.simplexPass Cubes.square Cubes.cube Cubes.cubePass Vertices.flagged Vertices.midpointVertex Vertices.pairVertex Mesh.curveVertices Mesh.sizesOf Smoothing.withMidpoints Smoothing.columnRule Smoothing.nothing Smoothing.ignored Smoothing.update Smoothing.toCorners Smoothing.gather Smoothing.gathered Smoothing.replaced Smoothing.moved Smoothing.settled Smoothing.settledFrom Smoothing.smoothed Refinement.passOver Refinement.fits Refinement.runFrom Refinement.run
 refined kind depth m = Refinement.run kind false (record { cells = LIMITS; book = LIMIT }) depth m
 
 abbrev after : Kind → ℕ → Mesh → Mesh
@@ -120,7 +120,7 @@ volumesOf m = counted m (m .lists .volumes)
 
 -- the bytes of a mesh's file
 pub fileBytes : Kind → Mesh → List ℕ
-unfolding bits File.wordBytes File.vertexBytes File.elementBytes File.curveBytes File.listBytes File.fileOf flatMap
+unfolding File.wordBytes File.vertexBytes File.elementBytes File.listBytes File.fileOf
 fileBytes = File.fileOf
 
 -- the number of passes, then the whole mesh as the bytes of its file
@@ -154,8 +154,7 @@ room vertices ls =
     record { vertices = vertices; points = 0; lines = ls; areas = 0; volumes = 0; curves = 0; «curve_vertices» = 0 }
 
 -- the whole passes of two that a line gets in lent vertices, lines and book, and the refusal
-pub roomOf : ℕ → ℕ → ℕ → List ℕ
-unfolding refined
+abbrev roomOf : ℕ → ℕ → ℕ → List ℕ
 roomOf vertices ls book =
     let r = Refinement.run cubes false (record { cells = room vertices ls; book = book }) 2 example in
     r .passes ∷ numberOf (r .verdict) ∷ []
@@ -175,7 +174,7 @@ bench x flags point curveCount =
 
 -- The refusal of a refinement, by a vertex's x and flag byte, a point, and the vertex count of a curve where no curve vertex is handed in.
 pub refusalOf : ℕ → ℕ → ℕ → ℕ → ℕ
-unfolding Refinement.within Answers.firstDue Memory.cells Memory.firstOf Memory.vertexRow Memory.elementRow Memory.curveRow Memory.stepRow Memory.rowsOf Memory.stepWords Memory.curveParts Refusals.every Refusals.goodFlags Refusals.goodParity Refusals.goodCoordinate Refusals.goodPosition Refusals.goodNumber Refusals.goodCurve Refusals.curveLengths Refusals.countsHold Refusals.marksHold Refusals.positionsHold Refusals.numbersHold Refusals.handedIn Refusals.benchesHold Refusals.refinementVerdict
+unfolding Refinement.within Answers.firstDue Memory.cells Memory.firstOf Memory.vertexRow Memory.curveRow Memory.rowsOf Memory.stepWords Memory.curveParts Refusals.every Refusals.goodPosition Refusals.goodCurve Refusals.curveLengths Refusals.countsHold Refusals.marksHold Refusals.positionsHold Refusals.numbersHold Refusals.handedIn Refusals.benchesEqual Refusals.benchesHold Refusals.refinementVerdict
 refusalOf x flags point curveCount =
     let b = bench x flags point curveCount in
     numberOf
@@ -186,7 +185,7 @@ refusalOf x flags point curveCount =
 
 -- what `sheet` prints
 pub sheetOf : List ℕ → List ℕ
-unfolding refined File.judged File.byte File.word File.several File.counted File.coordinate File.vertex File.number File.parity File.element File.line File.curveCount File.curve File.curves File.lists File.kindField File.end File.figure Listing.digit Listing.decimalBefore Listing.decimal Listing.hexadecimal Listing.vertexLine Listing.vertexLines Listing.numbers Listing.pointLine Listing.elementLine Listing.curveLine Listing.listing Listing.refusal Sheet.printed Sheet.sheetFields Sheet.sheet Refusals.goodFlags Refusals.goodParity Refusals.goodCoordinate Refusals.goodNumber flatMap
+unfolding File.judged File.byte File.word File.several File.counted File.coordinate File.vertex File.number File.parity File.element File.line File.curves File.lists File.kindField File.end File.figure Listing.digit Listing.decimalBefore Listing.decimal Listing.hexadecimal Listing.vertexLine Listing.vertexLines Listing.numbers Listing.elementLine Listing.listing Listing.refusal Sheet.printed Sheet.sheetFields Sheet.sheet Refusals.goodFlags Refusals.goodParity Refusals.goodCoordinate Refusals.goodNumber flatMap
 sheetOf = Sheet.sheet
 
 -- passes 1
@@ -294,5 +293,5 @@ passed [] = true
 passed (c ∷ cs) = sameRows (c .found) (c .marked) && passed cs
 
 pub all-as-marked : passed cases ≡ true
-unfolding Ledger.sameList bits rootBits refined fileBytes roomOf refusalOf sheetOf
+unfolding Ledger.sameList bits rootBits refined fileBytes refusalOf sheetOf
 all-as-marked = refl

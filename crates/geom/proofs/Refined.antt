@@ -1,17 +1,15 @@
 -- Demand 3, whole: for every mesh in memory that is accepted, of either kind, every depth and every lending, with the number of whole passes and the mesh left as
 -- the refinement gives them, wherever refusal 10 stopped the work. Acceptance is the only premise: no refusal is due for what is handed in.
 -- Assumes nothing.
-use mathlib.Core.Path.{_≡_, ap, sym, subst, _∙_}
+use mathlib.Core.Path.{_≡_, ap, sym, _∙_}
 use mathlib.Core.Logic.{_↔_}
-use mathlib.Core.Bool.{Bool}
 use mathlib.Core.List.{List}
 use Prim.Native.Nat.{ℕ}
 use lib.Dec.{eqb}
 use lib.ListN.{length}
 use Rattle.geom.specs.declared.answer.Sizes.{Sizes}
 use Rattle.geom.specs.Book.{Kind, simplices}
-use Rattle.geom.specs.Elements.{Element, Lists}
-use Rattle.geom.specs.Rules.{Went}
+use Rattle.geom.specs.Elements.{Lists}
 use Rattle.geom.specs.Passes.{listsAfter}
 use Rattle.geom.specs.Ledger.{ledger, refined, Closed}
 use Rattle.geom.specs.Mesh.{Mesh}
@@ -36,7 +34,7 @@ left-lists :
     → let mesh = original kind s d in
     let r = runOf kind s d depth time in
     r .left .mesh .lists ≡ listsAfter kind (length (mesh .vertices)) (mesh .lists) (r .passes)
-left-lists kind s d depth time = ap (λ (w : Went). w .lists) (run-lists kind (eqb time 1) (lentBy kind d) depth (original kind s d))
+left-lists kind s d depth time = run-lists kind (eqb time 1) (lentBy kind d) depth (original kind s d) .0
 
 -- 1. The ledger of the mesh left equals, entry for entry, the original's ledger put n times through the refinement of faces, n being the whole passes.
 pub ledger-left :

@@ -1,4 +1,5 @@
--- Document 01, refusals: what an entry's answer says. For each case of the enums `Ended` and `Opened` this gives the paper's number, or none, and the kind.
+-- Document 01, refusals: what an entry's answer says. For each case of the enums `Ended` and `Opened` this gives the paper's number, or none,
+-- and the kind.
 -- Says nothing of when a number is due (Refinement, Refusals, File).
 -- Assumes nothing.
 use mathlib.Core.Bool.{Bool, cond}

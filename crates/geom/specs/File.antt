@@ -1,7 +1,8 @@
--- Document 01, section 8: the file. First the bytes of a mesh, which is what a file is; then the judgement of any bytes, field by field; and reading as an entry.
+-- Document 01, section 8: the file. First the bytes of a mesh, which is what a file is; then the judgement of any bytes, field by field; and
+-- reading as an entry.
 -- A field is read whole, then judged, and it is judged before the next is read. A count is held against 10 alone, never against the bytes left.
 -- Says nothing of the program that reads standard input (Sheet).
--- Assumes nothing. Bytes are numbers below 256, and where one is above, nothing here depends on it.
+-- Assumes nothing, not even that a byte is below 256.
 use mathlib.Core.Bool.{Bool, cond, not, _&&_}
 use mathlib.Core.List.{List, [], _∷_, _++_, map, flatMap}
 use Prim.Native.Nat.{ℕ, zero, suc, _+_, _-_, _*_, _/_, _%_, _^_}
@@ -15,9 +16,9 @@ use Rattle.geom.specs.Book.{Kind, cubes, simplices}
 use Rattle.geom.specs.Elements.{Element, Curve}
 use Rattle.geom.specs.Answers.{meshOfKind, noMesh, Opening}
 use Rattle.geom.specs.Mesh.{Mesh, sizesOf}
-use Rattle.geom.specs.Refinement.{LIMIT, within}
+use Rattle.geom.specs.Refinement.{LIMIT}
 use Rattle.geom.specs.Memory.{Bench, areaCorners, volumeCorners, cells, parityOf, parityWord, benchOf, over}
-use Rattle.geom.specs.Refusals.{goodFlags, goodParity, goodCoordinate, goodNumber}
+use Rattle.geom.specs.Refusals.{goodFlags, goodParity, goodCoordinate, goodNumber, benchesEqual}
 
 -- ---- the bytes of a mesh
 
@@ -225,7 +226,7 @@ end x (b ∷ bytes) = stop 4
 unfoldable pub figure : (Kind → Sizes) → Reader Figure
 figure lent = do
   v ← byte
-  version ← judged 1 (eqb v 1) v
+  _ ← judged 1 (eqb v 1) v
   kind ← kindField
   mesh ← lists kind (lent kind)
   end (record { kind = kind; mesh = mesh })
@@ -234,14 +235,10 @@ figure lent = do
 
 -- For a file 9 comes first: a list's two benches are unequal. The kind isn't known then, so it is judged for both.
 unfoldable pub benchesMatch : Bench → Bench → Bool
-benchesMatch first second =
-    within (cells cubes first) (cells cubes second)
-    && within (cells cubes second) (cells cubes first)
-    && within (cells simplices first) (cells simplices second)
-    && within (cells simplices second) (cells simplices first)
+benchesMatch first second = benchesEqual cubes first second && benchesEqual simplices first second
 
--- what the answer says, and the first bench afterwards
-pub record Opened : Type 0 where
+-- what the answer says, and the first bench afterwards; the second is never written
+pub record Loaded : Type 0 where
   pub opening : Opening
   pub bench : Bench
 
@@ -264,16 +261,16 @@ benchOver old out =
       curveVertices = over (old .curveVertices) (out .curveVertices);
     }
 
-abbrev pub openedBy : Bench → Read Figure → Opened
-openedBy bench (stop n) = record { opening = record { sizes = NO-SIZES; judgement = noMesh n }; bench = bench }
-openedBy bench (read f bytes) =
+abbrev pub loadedBy : Bench → Read Figure → Loaded
+loadedBy bench (stop n) = record { opening = record { sizes = NO-SIZES; judgement = noMesh n }; bench = bench }
+loadedBy bench (read f bytes) =
     record {
       opening = record { sizes = sizesOf (f .mesh); judgement = meshOfKind (f .kind) };
       bench = benchOver bench (benchOf (f .mesh));
     }
 
 -- The whole of it: refused, and nothing changes; or the mesh on the first bench.
-unfoldable pub opened : Bench → Bench → List ℕ → Opened
-opened first second bytes =
+unfoldable pub loaded : Bench → Bench → List ℕ → Loaded
+loaded first second bytes =
     let judgement = figure (λ (kind : Kind). cells kind first) bytes in
-    openedBy first (cond (benchesMatch first second) judgement (stop 9))
+    loadedBy first (cond (benchesMatch first second) judgement (stop 9))

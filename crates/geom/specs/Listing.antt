@@ -1,5 +1,6 @@
 -- Document 01, section 8: the listing of a refined mesh, and the line of a refusal, as bytes.
 -- Every line ends with a newline, the last too; one space stands between words.
+-- Tags, k and flags are not printed.
 -- Assumes nothing.
 use mathlib.Core.Bool.{cond}
 use mathlib.Core.List.{List, [], _∷_, _++_, map, flatMap}

@@ -1,5 +1,6 @@
 -- Document 01, section 7: the normals of a simplex mesh, in three dimensions from its triangles and in four from its tetrahedra; and the two entries.
 -- Said per vertex: the sum that vertex v gathers in mesh order, from +0, and then normalised (section 1, in `numbers`).
+-- Says nothing of a normal's length.
 -- Assumes nothing.
 use mathlib.Core.Bool.{Bool, true, cond, not, _&&_}
 use mathlib.Core.List.{List, [], _∷_, _++_, flatMap}

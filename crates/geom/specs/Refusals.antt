@@ -106,11 +106,15 @@ pub record Desk : Type 0 where
   pub sums : List Float
   pub tallies : List ℕ
 
--- a list's two benches are equal, and smoothing's cells are as long as the vertex benches
+-- a list's two benches are equal: as many lent cells
+unfoldable pub benchesEqual : Kind → Bench → Bench → Bool
+benchesEqual kind first second =
+    within (cells kind first) (cells kind second) && within (cells kind second) (cells kind first)
+
+-- the benches are equal, and smoothing's cells are as long as the vertex benches
 unfoldable pub benchesHold : Kind → Desk → Bool
 benchesHold kind d =
-    within (cells kind (d .first)) (cells kind (d .second))
-    && within (cells kind (d .second)) (cells kind (d .first))
+    benchesEqual kind (d .first) (d .second)
     && eqb (min (length (d .sums) / 4) (length (d .tallies) / 2)) (cells kind (d .first) .vertices)
 
 unfoldable pub lentBy : Kind → Desk → Lent

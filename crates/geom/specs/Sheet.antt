@@ -1,5 +1,7 @@
 -- Document 01, section 8: what the program `sheet` prints for its standard input, as one function from bytes to bytes.
--- Assumes nothing. (Of 'more than 65,536 bytes' all of the input is counted.)
+-- Of 'more than 65,536 bytes' all of the input is counted, the depth and smooth_time bytes too.
+-- Says nothing of how the program reads and writes.
+-- Assumes nothing.
 use mathlib.Core.Bool.{cond}
 use mathlib.Core.List.{List, [], _∷_}
 use Prim.Native.Nat.{ℕ}

@@ -1,4 +1,5 @@
--- Document 01, sections 3 and 4: the vertex rules of a pass. The old vertices stay, the new ones follow in the book's order, and then all are smoothed.
+-- Document 01, sections 3 and 4: the vertex rules of a pass. The old vertices stay, the new ones follow in the book's order, and then all are
+-- smoothed.
 -- Smoothing is said per vertex: what vertex v gathers from the pass's new lists, element by element, and what that makes of v. The positions
 -- read are those before smoothing, of old vertices and of this pass's midpoints.
 -- Says nothing of the lists themselves (Passes).

@@ -1,5 +1,6 @@
 -- Document 01, section 6: cubes cut into simplices, as one mesh to another and as the entry over lent lists.
 -- Vertices, points, lines and curves stay; the new areas and volumes go into lists lent for them.
+-- Says nothing of the ledger of what comes out.
 -- Assumes nothing.
 use mathlib.Core.Bool.{Bool, true, not, _&&_}
 use mathlib.Core.List.{List, [], _∷_, _++_, flatMap}
@@ -73,30 +74,30 @@ triangulated m =
 -- ---- the entry
 
 -- the lists lent for triangles, 4 words a cell, and for tetrahedra, 5 words a cell
-pub record Sheets : Type 0 where
+pub record Cuts : Type 0 where
   pub areas : List ℕ
   pub volumes : List ℕ
 
 -- 10 for what is to be written: more than the lent cells or the limit
-unfoldable pub sheetsHold : Sheets → Sizes → Bool
-sheetsHold out s =
+unfoldable pub cutsHold : Cuts → Sizes → Bool
+cutsHold out s =
     leb (s .areas) (length (out .areas) / 4)
     && leb (s .areas) LIMIT
     && leb (s .volumes) (length (out .volumes) / 5)
     && leb (s .volumes) LIMIT
 
 -- the refusal that is due: those of a mesh in memory, then 10 for what is to be written
-unfoldable pub triangulationVerdict : Sizes → Bench → Sheets → Verdict
+unfoldable pub triangulationVerdict : Sizes → Bench → Cuts → Verdict
 triangulationVerdict s b out =
     let m = triangulated (meshOf (rowsOf cubes s b)) in
-    firstDue (handedIn true true cubes s b ++ due 10 (not (sheetsHold out (sizesOf m))) ∷ [])
+    firstDue (handedIn true true cubes s b ++ due 10 (not (cutsHold out (sizesOf m))) ∷ [])
 
 -- what the answer says, and the lent lists afterwards
 pub record Triangulated : Type 0 where
   pub outcome : Outcome
-  pub out : Sheets
+  pub out : Cuts
 
-abbrev pub triangulatedBy : Verdict → Sizes → Mesh → Sheets → Triangulated
+abbrev pub triangulatedBy : Verdict → Sizes → Mesh → Cuts → Triangulated
 triangulatedBy (refused n) s m out = record { outcome = record { sizes = s; verdict = refused n }; out = out }
 triangulatedBy accepted s m out =
     record {
@@ -109,6 +110,6 @@ triangulatedBy accepted s m out =
     }
 
 -- From the words handed in: refused, and nothing changes, the sizes being those stated; or written, with the sizes of the new mesh.
-unfoldable pub triangulation : Sizes → Bench → Sheets → Triangulated
+unfoldable pub triangulation : Sizes → Bench → Cuts → Triangulated
 triangulation s b out =
     triangulatedBy (triangulationVerdict s b out) s (triangulated (meshOf (rowsOf cubes s b))) out

@@ -1,0 +1,199 @@
+-- Rows that pass a test, one after the other: what the judge's loops know at their start, after a turn and where they stop.
+-- Assumes nothing.
+use mathlib.Core.Path.{_≡_, refl, sym, _∙_, ap, ap₂}
+use mathlib.Core.Bool.{Bool, true, false, _&&_}
+use mathlib.Core.List.{List, [], _∷_, _++_}
+use mathlib.Core.Logic.{_⊎_, inl, inr}
+use Prim.Native.Nat.{ℕ, zero, suc, _+_, _*_, _≤_, _<_}
+use native.Mathlib.Nat.{mul-suc, mul-le-mul-left, eq-or-lt-of-le, add-zero}
+use native.Mathlib.Numerals.{add-one}
+use native.Mathlib.Omega.{arith}
+use lib.Dec.{leb·suc-suc}
+use lib.Ieee.{Float}
+use lib.ListN.{length, getD, take, drop, length-drop}
+use borrow.Author.Tests.{lt-ltb, le-ltb}
+use Rattle.numbers.specs.Binary32 as Binary32
+use Rattle.geom.specs.declared.vertex.Vertex.{Vertex}
+use lib.Seq.{take-suc, getD-drop}
+use Rattle.geom.specs.Memory.{ElementRow, StepRow, firstOf, vertexRow, elementRow, stepRow}
+use Rattle.geom.specs.Refusals.{every, goodNumber, goodFlags, goodParity, goodCoordinate, goodPosition}
+use Rattle.judge.specs.Words.{wordAt, columnBelow, Column, Elements}
+
+and-true : (b : Bool) → (b && true) ≡ b
+and-true true = refl
+and-true false = refl
+
+and-assoc : (a b c : Bool) → (a && b && c) ≡ (a && (b && c))
+and-assoc true b c = refl
+and-assoc false b c = refl
+
+and-false : (b : Bool) → (b && false) ≡ false
+and-false true = refl
+and-false false = refl
+
+pub every-append : {A : Type 0} (test : A → Bool) (xs ys : List A) → every test (xs ++ ys) ≡ (every test xs && every test ys)
+unfolding every
+every-append test [] ys = refl
+every-append test (x ∷ xs) ys = ap (λ (b : Bool). test x && b) (every-append test xs ys) ∙ sym (and-assoc (test x) (every test xs) (every test ys))
+
+pub every-snoc : {A : Type 0} (test : A → Bool) (xs : List A) (x : A) → every test (xs ++ x ∷ []) ≡ (every test xs && test x)
+unfolding every
+every-snoc test xs x = every-append test xs (x ∷ []) ∙ ap (λ (b : Bool). every test xs && b) (and-true (test x))
+
+module _ {A : Type 0} (test : A → Bool) (at : ℕ → A) where
+  -- one row more
+  pub every-suc : (n : ℕ) → every test (firstOf at (suc n)) ≡ (every test (firstOf at n) && test (at n))
+  unfolding firstOf
+  every-suc n = every-snoc test (firstOf at n) (at n)
+
+  -- at the start
+  pub every-start : every test (firstOf at 0) ≡ true
+  unfolding firstOf every
+  every-start = refl
+
+  -- on: a row that passes
+  pub every-on : (i : ℕ) → every test (firstOf at i) ≡ true → test (at i) ≡ true → every test (firstOf at (i + 1)) ≡ true
+  every-on i p q = rw (add-one, every-suc i, p) q
+
+  -- stopped: a row that does not
+  pub every-off : (i n : ℕ) → i < n → test (at i) ≡ false → every test (firstOf at n) ≡ false
+  every-off i zero h q = absurd (omega arith)
+  every-off i (suc n) h q = every-suc n ∙ go (every-off i n) (eq-or-lt-of-le {n = i} {m = n} (omega arith))
+    where
+      go : (i < n → test (at i) ≡ false → every test (firstOf at n) ≡ false) → (i ≡ n) ⊎ (i < n) → (every test (firstOf at n) && test (at n)) ≡ false
+      go rest (inl e) = rw (← e, q) (and-false (every test (firstOf at i)))
+      go rest (inr l) = rw (rest l q) refl
+
+  -- done: all rows passed
+  pub every-done : (i n : ℕ) → i ≤ n → n ≤ i → every test (firstOf at i) ≡ true → true ≡ every test (firstOf at n)
+  every-done i n h k p = let e : i ≡ n = omega arith in sym (rw e at p)
+
+-- the same test, said of other rows
+pub every-same : {A B : Type 0} (test : A → Bool) (at : ℕ → A) (test′ : B → Bool) (at′ : ℕ → B) (n : ℕ)
+    → ((i : ℕ) → i < n → test (at i) ≡ test′ (at′ i)) → every test (firstOf at n) ≡ every test′ (firstOf at′ n)
+unfolding firstOf every
+every-same test at test′ at′ zero h = refl
+every-same test at test′ at′ (suc n) h =
+    every-suc test at n
+    ∙ ap₂ _&&_ (every-same test at test′ at′ n (λ i k. h i (omega arith))) (h n (omega arith))
+    ∙ sym (every-suc test′ at′ n)
+
+-- ---- words below a bound
+
+pub number-off : (bound w r : ℕ) → r ≡ w → bound ≤ r → goodNumber bound w ≡ false
+unfolding goodNumber
+number-off bound w r e h = le-ltb w bound (omega arith)
+
+pub number-on : (bound w r : ℕ) → r ≡ w → r < bound → goodNumber bound w ≡ true
+unfolding goodNumber
+number-on bound w r e h = lt-ltb w bound (omega arith)
+
+-- rows of a fixed width that stand whole in a slice
+pub rows-column : (words : List ℕ) (width column rows : ℕ) → column < width → width * rows ≤ length words → Column words width column rows
+rows-column words width column rows h room =
+    record { stands = λ i k. omega (arith, mul-suc width i, mul-le-mul-left width k) }
+
+pub elements-column : (words : List ℕ) (corners rows : ℕ) → Elements words corners rows → Column words (corners + 1) corners rows
+elements-column words corners rows e =
+    rw (add-one corners) (rows-column words (suc corners) corners rows (omega arith) (e .room))
+
+-- the corners of row i
+pub row-end : (words : List ℕ) (corners rows i : ℕ) → Elements words corners rows → i < rows → (corners + 1) * i + corners < length words
+row-end words corners rows i e h = elements-column words corners rows e .stands i h
+
+pub row-column : (words : List ℕ) (start n : ℕ) → start + n ≤ length words → Column words 1 start n
+row-column words start n h = record { stands = λ i k. omega arith }
+
+-- words that follow one another
+firstOf-take : (words : List ℕ) (start n : ℕ) → start + n ≤ length words → firstOf (wordAt words 1 start) n ≡ take n (drop start words)
+unfolding firstOf
+firstOf-take words start zero h = refl
+firstOf-take words start (suc n) h =
+    let l : n < length (drop start words) = simp length-drop (omega arith) in
+    let e : 1 * n + start ≡ start + n = omega arith in
+    sym (take-suc (drop start words) n 0 l
+    ∙ ap₂ (λ (xs : List ℕ) (x : ℕ). xs ++ x ∷ []) (sym (firstOf-take words start n (omega arith))) (getD-drop start words n 0 ∙ ap (λ (k : ℕ). getD words k 0) (sym e)))
+
+-- an element's corners
+pub row-corners : (words : List ℕ) (corners rows i count : ℕ) → Elements words corners rows → i < rows
+    → columnBelow words 1 ((corners + 1) * i) corners count ≡ every (goodNumber count) (elementRow corners words i .corners)
+unfolding elementRow
+row-corners words corners rows i count e h =
+    let l = row-end words corners rows i e h in
+    ap (every (goodNumber count)) (firstOf-take words ((corners + 1) * i) corners (omega arith)
+    ∙ ap (λ (k : ℕ). take corners (drop (k * i) words)) (add-one corners))
+
+-- ---- columns as the rows' tests
+
+pub flags-column : (positions : List Float) (marks : List ℕ) (n : ℕ)
+    → columnBelow marks 3 0 n 16 ≡ every (λ (v : Vertex). goodFlags (v .flags)) (firstOf (vertexRow positions marks) n)
+unfolding goodNumber goodFlags vertexRow
+flags-column positions marks n =
+    every-same (goodNumber 16) (wordAt marks 3 0) (λ (v : Vertex). goodFlags (v .flags)) (vertexRow positions marks) n
+    (λ i h. rw (add-zero (3 * i)) (leb·suc-suc (getD marks (3 * i) 0) 15))
+
+pub parities-column : (words : List ℕ) (corners n : ℕ)
+    → columnBelow words (corners + 1) corners n 2 ≡ every (λ (e : ElementRow). goodParity (e .parity)) (firstOf (elementRow corners words) n)
+unfolding goodNumber goodParity elementRow
+parities-column words corners n =
+    every-same (goodNumber 2) (wordAt words (corners + 1) corners) (λ (e : ElementRow). goodParity (e .parity)) (elementRow corners words) n
+    (λ i h. rw (add-one corners) (leb·suc-suc (getD words (suc corners * i + corners) 0) 1))
+
+pub points-column : (points : List ℕ) (n count : ℕ)
+    → columnBelow points 1 0 n count ≡ every (goodNumber count) (firstOf (λ (i : ℕ). getD points i 0) n)
+points-column points n count =
+    every-same (goodNumber count) (wordAt points 1 0) (goodNumber count) (λ (i : ℕ). getD points i 0) n
+    (λ i h. let e : 1 * i + 0 ≡ i = omega arith in rw e refl)
+
+pub steps-column : (steps : List ℕ) (n count : ℕ)
+    → columnBelow steps 2 0 n count ≡ every (λ (s : StepRow). goodNumber count (s .vertex)) (firstOf (stepRow steps) n)
+unfolding stepRow
+steps-column steps n count =
+    every-same (goodNumber count) (wordAt steps 2 0) (λ (s : StepRow). goodNumber count (s .vertex)) (stepRow steps) n
+    (λ i h. rw (add-zero (2 * i)) refl)
+
+-- what stands past the end is never read
+pub getD-any : {A : Type 0} (l : List A) (i : ℕ) (d e : A) → i < length l → getD l i d ≡ getD l i e
+getD-any [] i d e h = absurd (omega arith)
+getD-any (x ∷ l) zero d e h = refl
+getD-any (x ∷ l) (suc i) d e h = getD-any l i d e (omega arith)
+
+-- four coordinates a vertex
+and-four : (e a b c d : Bool) → (e && a && b && c && d) ≡ (e && (a && b && c && d))
+and-four true a b c d = refl
+and-four false a b c d = refl
+
+pub positions-words : (positions : List Float) (marks : List ℕ) (n : ℕ)
+    → every goodCoordinate (firstOf (λ (i : ℕ). getD positions i Binary32.zero) (4 * n))
+    ≡ every (λ (v : Vertex). goodPosition (v .position)) (firstOf (vertexRow positions marks) n)
+unfolding firstOf every
+positions-words positions marks zero = refl
+positions-words positions marks (suc n) =
+    let at : ℕ → Float = λ i. getD positions i Binary32.zero in
+    ap (λ (k : ℕ). every goodCoordinate (firstOf at k)) (four n)
+    ∙ every-suc goodCoordinate at (4 * n + 3)
+    ∙ ap (λ (b : Bool). b && goodCoordinate (at (4 * n + 3))) (three at n)
+    ∙ and-four (every goodCoordinate (firstOf at (4 * n))) (goodCoordinate (at (4 * n))) (goodCoordinate (at (4 * n + 1))) (goodCoordinate (at (4 * n + 2))) (goodCoordinate (at (4 * n + 3)))
+    ∙ ap₂ _&&_ (positions-words positions marks n) (row positions marks n)
+    ∙ sym (every-suc (λ (v : Vertex). goodPosition (v .position)) (vertexRow positions marks) n)
+  where
+    four : (n : ℕ) → 4 * suc n ≡ suc (4 * n + 3)
+    four n = omega arith
+
+    three : (at : ℕ → Float) (n : ℕ) → every goodCoordinate (firstOf at (4 * n + 3))
+        ≡ (every goodCoordinate (firstOf at (4 * n)) && goodCoordinate (at (4 * n)) && goodCoordinate (at (4 * n + 1)) && goodCoordinate (at (4 * n + 2)))
+    three at n =
+        let p : 4 * n + 3 ≡ suc (4 * n + 2) = omega arith in
+        let q : 4 * n + 2 ≡ suc (4 * n + 1) = omega arith in
+        ap (λ (k : ℕ). every goodCoordinate (firstOf at k)) p
+        ∙ every-suc goodCoordinate at (4 * n + 2)
+        ∙ ap (λ (b : Bool). b && goodCoordinate (at (4 * n + 2)))
+        (ap (λ (k : ℕ). every goodCoordinate (firstOf at k)) q
+        ∙ every-suc goodCoordinate at (4 * n + 1)
+        ∙ ap (λ (b : Bool). b && goodCoordinate (at (4 * n + 1)))
+        (ap (λ (k : ℕ). every goodCoordinate (firstOf at k)) (add-one (4 * n)) ∙ every-suc goodCoordinate at (4 * n)))
+
+    row : (positions : List Float) (marks : List ℕ) (n : ℕ)
+        → (goodCoordinate (getD positions (4 * n) Binary32.zero) && goodCoordinate (getD positions (4 * n + 1) Binary32.zero) && goodCoordinate (getD positions (4 * n + 2) Binary32.zero) && goodCoordinate (getD positions (4 * n + 3) Binary32.zero))
+        ≡ goodPosition (vertexRow positions marks n .position)
+    row positions marks n = unfold goodPosition vertexRow in refl

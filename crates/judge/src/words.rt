@@ -1,0 +1,179 @@
+// Document 01, refusals 5 to 8: loops over the words of one list, each ending at the first word that is refused.
+ghost use mathlib.Core.Path.{_≡_};
+ghost use mathlib.Core.List.{List};
+ghost use Prim.Native.Nat.{ℕ, _+_, _*_, _≤_, _<_};
+ghost use lib.Dec.{eqb};
+ghost use lib.Ieee.{Float};
+ghost use lib.ListN.{length, getD, take, drop};
+ghost use Rattle.numbers.specs.Binary32 as Binary32;
+ghost use Rattle.geom.specs.declared.vertex.Vertex.{Vertex};
+ghost use Rattle.geom.specs.Memory.{ElementRow, StepRow, firstOf, vertexRow, elementRow, curveRow, stepRow, stepWords, curveParts};
+ghost use Rattle.geom.specs.Refusals.{every, goodFlags, goodParity, goodCoordinate, goodPosition, goodNumber, goodCurve, curveLengths};
+ghost use Rattle.judge.specs.Words.{columnBelow, Column, Elements, Parts};
+
+// A word, as wide as a count.
+fn word(words: &[u32], i: usize) -> usize
+    requires { ⌜ i < length (now words) ⌝ }
+    ensures { λ r. ⌜ r ≡ getD (now (words .entry)) i 0 ⌝ }
+{
+    words[i] as usize
+}
+
+// A coordinate.
+fn number(words: &[f32], i: usize) -> f32
+    requires { ⌜ i < length (now words) ⌝ }
+    ensures { λ r. ⌜ r ≡ getD (now (words .entry)) i Binary32.zero ⌝ }
+{
+    words[i]
+}
+
+// Whether one word of each row is below the bound.
+pub fn column_below(words: &[u32], width: usize, column: usize, rows: usize, bound: usize) -> bool
+    requires { ⌜ Column (now words) width column rows ⌝ }
+    ensures { λ r. ⌜ r ≡ columnBelow (now (words .entry)) width column rows bound ⌝ }
+{
+    let mut i: usize = 0;
+    while i < rows {
+        if bound <= word(words, width * i + column) {
+            return false;
+        }
+        i += 1;
+    }
+    true
+}
+
+// 5: each vertex has a flag byte of at most 15.
+pub fn flags_hold(marks: &[u32], vertices: usize) -> bool
+    requires { ⌜ 3 * vertices ≤ length (now marks) ⌝ }
+    ensures { λ r. ⌜ ((positions : List Float) → r ≡ every (λ (v : Vertex). goodFlags (v .flags)) (firstOf (vertexRow positions (now (marks .entry))) vertices)) ⌝ }
+{
+    column_below(marks, 3, 0, vertices, 16)
+}
+
+// 5: each element has a parity of at most 1.
+pub fn parities_hold(words: &[u32], corners: usize, rows: usize) -> bool
+    requires { ⌜ Elements (now words) corners rows ⌝ }
+    ensures { λ r. ⌜ r ≡ every (λ (e : ElementRow). goodParity (e .parity)) (firstOf (elementRow corners (now (words .entry))) rows) ⌝ }
+{
+    column_below(words, corners + 1, corners, rows, 2)
+}
+
+// 7: each corner of each element is below the count.
+pub fn corners_hold(words: &[u32], corners: usize, rows: usize, count: usize) -> bool
+    requires { ⌜ Elements (now words) corners rows ⌝ }
+    ensures { λ r. ⌜ r ≡ every (λ (e : ElementRow). every (goodNumber count) (e .corners)) (firstOf (elementRow corners (now (words .entry))) rows) ⌝ }
+{
+    let mut i: usize = 0;
+    while i < rows {
+        let start = (corners + 1) * i;
+        if !column_below(words, 1, start, corners, count) {
+            return false;
+        }
+        i += 1;
+    }
+    true
+}
+
+// 7: each point is below the count.
+pub fn points_hold(points: &[u32], rows: usize, count: usize) -> bool
+    requires { ⌜ rows ≤ length (now points) ⌝ }
+    ensures { λ r. ⌜ r ≡ every (goodNumber count) (firstOf (λ (i : ℕ). getD (now (points .entry)) i 0) rows) ⌝ }
+{
+    column_below(points, 1, 0, rows, count)
+}
+
+// 7: each curve vertex is below the count.
+pub fn steps_hold(steps: &[u32], rows: usize, count: usize) -> bool
+    requires { ⌜ 2 * rows ≤ length (now steps) ⌝ }
+    ensures { λ r. ⌜ r ≡ every (λ (s : StepRow). goodNumber count (s .vertex)) (firstOf (stepRow (now (steps .entry))) rows) ⌝ }
+{
+    column_below(steps, 2, 0, rows, count)
+}
+
+// 8: each curve has vertices.
+pub fn curves_hold(curves: &[u32], rows: usize) -> bool
+    requires { ⌜ 2 * rows ≤ length (now curves) ⌝ }
+    ensures { λ r. ⌜ r ≡ every goodCurve (firstOf (curveRow (now (curves .entry))) rows) ⌝ }
+{
+    let mut i: usize = 0;
+    while i < rows {
+        if word(curves, 2 * i + 1) == 0 {
+            return false;
+        }
+        i += 1;
+    }
+    true
+}
+
+// 6: finite, from -1,024 to 1,024.
+pub fn coordinate_holds(c: f32) -> bool
+    ensures { λ r. ⌜ r ≡ goodCoordinate c ⌝ }
+{
+    if -1024.0 <= c {
+        return c <= 1024.0;
+    }
+    false
+}
+
+// 6: each coordinate of each vertex.
+pub fn positions_hold(positions: &[f32], vertices: usize) -> bool
+    requires { ⌜ 4 * vertices ≤ length (now positions) ⌝ }
+    ensures { λ r. ⌜ ((marks : List ℕ) → r ≡ every (λ (v : Vertex). goodPosition (v .position)) (firstOf (vertexRow (now (positions .entry)) marks) vertices)) ⌝ }
+{
+    let end = 4 * vertices;
+    let mut i: usize = 0;
+    while i < end {
+        if !coordinate_holds(number(positions, i)) {
+            return false;
+        }
+        i += 1;
+    }
+    true
+}
+
+// 9: the curves' lengths add up to the curve vertices. What is left of the total is counted down, so no sum is formed.
+pub fn lengths_hold(curves: &[u32], rows: usize, total: usize) -> bool
+    requires { ⌜ 2 * rows ≤ length (now curves) ⌝ }
+    ensures { λ r. ⌜ r ≡ eqb (curveLengths (firstOf (curveRow (now (curves .entry))) rows)) total ⌝ }
+{
+    let mut left = total;
+    let mut i: usize = 0;
+    while i < rows {
+        let count = word(curves, 2 * i + 1);
+        if left < count {
+            return false;
+        }
+        left -= count;
+        i += 1;
+    }
+    left == 0
+}
+
+// 5: each step of one curve has a parity of at most 1; the word beside its last vertex is not looked at.
+pub fn part_holds(steps: &[u32], start: usize, count: usize) -> bool
+    requires { ⌜ 2 * (start + count) ≤ length (now steps) ⌝ }
+    ensures { λ r. ⌜ ((total : ℕ) → start + count ≤ total → r ≡ every goodParity (stepWords (take count (drop start (firstOf (stepRow (now (steps .entry))) total))))) ⌝ }
+{
+    if count == 0 {
+        return true;
+    }
+    column_below(steps, 2, 2 * start + 1, count - 1, 2)
+}
+
+// 5: the steps of each curve. The curves' vertices stand one curve after the other.
+pub fn parts_hold(curves: &[u32], rows: usize, steps: &[u32], total: usize) -> bool
+    requires { ⌜ Parts (now curves) rows (now steps) total ⌝ }
+    ensures { λ r. ⌜ r ≡ every (λ (part : List StepRow). every goodParity (stepWords part)) (curveParts (firstOf (curveRow (now (curves .entry))) rows) (firstOf (stepRow (now (steps .entry))) total)) ⌝ }
+{
+    let mut start: usize = 0;
+    let mut i: usize = 0;
+    while i < rows {
+        let count = word(curves, 2 * i + 1);
+        if !part_holds(steps, start, count) {
+            return false;
+        }
+        start += count;
+        i += 1;
+    }
+    true
+}

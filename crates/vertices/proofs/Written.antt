@@ -1,0 +1,111 @@
+-- From cells to definitions, over the width of a row: rows written one after the other, read back, and written over what a slice held.
+-- Assumes nothing.
+use mathlib.Core.Path.{_≡_, refl, sym, _∙_, ap, ap₂}
+use mathlib.Core.List.{List, [], _∷_, _++_, map, flatMap, append-nil, append-assoc, map-append}
+use mathlib.Core.Logic.{_⊎_, inl, inr}
+use Prim.Native.Nat.{ℕ, zero, suc, _+_, _*_, _≤_, _<_}
+use native.Mathlib.Nat.{mul-add, mul-suc, eq-or-lt-of-le, zero-add}
+use native.Mathlib.Numerals.{add-one, towards-suc}
+use native.Mathlib.Omega.{arith}
+use lib.ListN.{length, getD, drop, set, length-append, List·getD-append}
+use lib.Seq.{sets, sets-eq, getD-at, getD-set-other}
+use Rattle.geom.specs.Memory.{firstOf, over}
+use Rattle.geom.proofs.Accepted.{length-firstOf}
+
+-- what stands past the end is never read
+pub getD-any : {A : Type 0} (l : List A) (i : ℕ) (d e : A) → i < length l → getD l i d ≡ getD l i e
+getD-any [] i d e h = absurd (omega arith)
+getD-any (x ∷ l) zero d e h = refl
+getD-any (x ∷ l) (suc i) d e h = getD-any l i d e (omega arith)
+
+pub four-stores : {A : Type 0} (l : List A) (a : ℕ) (x y z w : A)
+    → set (set (set (set l a x) (a + 1) y) (a + 2) z) (a + 3) w ≡ sets l a (x ∷ y ∷ z ∷ w ∷ [])
+four-stores l a x y z w = simp towards-suc
+
+pub three-stores : {A : Type 0} (l : List A) (a : ℕ) (x y z : A) → set (set (set l a x) (a + 1) y) (a + 2) z ≡ sets l a (x ∷ y ∷ z ∷ [])
+three-stores l a x y z = simp towards-suc
+
+-- ---- rows read by place
+
+pub getD-firstOf : {A : Type 0} (at : ℕ → A) (d : A) (i n : ℕ) → i < n → getD (firstOf at n) i d ≡ at i
+unfolding firstOf
+getD-firstOf at d i zero h = absurd (omega arith)
+getD-firstOf at d i (suc n) h = go (getD-firstOf at d i n) (eq-or-lt-of-le {n = i} {m = n} (omega arith))
+  where
+    go : (i < n → getD (firstOf at n) i d ≡ at i) → (i ≡ n) ⊎ (i < n) → getD (firstOf at n ++ at n ∷ []) i d ≡ at i
+    go rest (inl e) = getD-at (firstOf at n) (at n) [] d i (length-firstOf at n ∙ sym e) ∙ ap at (sym e)
+    go rest (inr l) = List·getD-append (firstOf at n) (at n ∷ []) d i (omega (arith, length-firstOf at n)) ∙ rest l
+
+pub firstOf-same : {A : Type 0} (at at′ : ℕ → A) (n : ℕ) → ((i : ℕ) → i < n → at i ≡ at′ i) → firstOf at n ≡ firstOf at′ n
+unfolding firstOf
+firstOf-same at at′ zero h = refl
+firstOf-same at at′ (suc n) h =
+    ap₂ (λ (xs : List _) (x : _). xs ++ x ∷ []) (firstOf-same at at′ n (λ i k. h i (omega arith))) (h n (omega arith))
+
+pub map-firstOf : {A B : Type 0} (f : A → B) (at : ℕ → A) (n : ℕ) → map f (firstOf at n) ≡ firstOf (λ (i : ℕ). f (at i)) n
+unfolding firstOf
+map-firstOf f at zero = refl
+map-firstOf f at (suc n) = map-append f (firstOf at n) (at n ∷ []) ∙ ap (λ (l : List _). l ++ f (at n) ∷ []) (map-firstOf f at n)
+
+-- ---- rows written one after the other
+
+sets-append : {A : Type 0} (l : List A) (a : ℕ) (ws us : List A) → sets l a (ws ++ us) ≡ sets (sets l a ws) (a + length ws) us
+sets-append l a [] us = let e : a + 0 ≡ a = omega arith in rw e refl
+sets-append l a (x ∷ ws) us =
+    let e : a + suc (length ws) ≡ suc a + length ws = omega arith in
+    rw e (sets-append (set l a x) (suc a) ws us)
+
+-- past what was written nothing has changed
+pub getD-sets-past : {A : Type 0} (l : List A) (a : ℕ) (ws : List A) (j : ℕ) (d : A) → a + length ws ≤ j → getD (sets l a ws) j d ≡ getD l j d
+getD-sets-past l a [] j d h = refl
+getD-sets-past l a (x ∷ ws) j d h =
+    getD-sets-past (set l a x) (suc a) ws j d (omega arith) ∙ getD-set-other l a j x d (λ e. omega arith)
+
+pub sets-over : {A : Type 0} (l ws : List A) → length ws ≤ length l → sets l 0 ws ≡ over l ws
+unfolding over
+sets-over l ws h = let e : 0 + length ws ≡ length ws = omega arith in sets-eq ws l 0 (omega arith) ∙ ap (λ (n : ℕ). ws ++ drop n l) e
+
+module _ {A B : Type 0} (f : A → List B) where
+  flat-append : (xs ys : List A) → flatMap f (xs ++ ys) ≡ flatMap f xs ++ flatMap f ys
+  unfolding flatMap
+  flat-append [] ys = refl
+  flat-append (x ∷ xs) ys = ap (λ (l : List B). f x ++ l) (flat-append xs ys) ∙ sym (append-assoc (f x) (flatMap f xs) (flatMap f ys))
+
+  module _ (width : ℕ) (wide : (x : A) → length (f x) ≡ width) where
+    pub length-flat : (xs : List A) → length (flatMap f xs) ≡ width * length xs
+    unfolding flatMap
+    length-flat [] = omega arith
+    length-flat (x ∷ xs) = length-append (f x) (flatMap f xs) ∙ omega (arith, wide x, length-flat xs, mul-suc width (length xs))
+
+    flat-more : (item : ℕ → A) (i : ℕ) → flatMap f (firstOf item (i + 1)) ≡ flatMap f (firstOf item i) ++ f (item i)
+    unfolding firstOf flatMap
+    flat-more item i =
+        rw add-one (flat-append (firstOf item i) (item i ∷ []) ∙ ap (λ (r : List B). flatMap f (firstOf item i) ++ r) (append-nil (f (item i))))
+
+    -- a row more, at its place behind those from row c on
+    pub laid-on : (l now : List B) (item : ℕ → A) (c i : ℕ) → now ≡ sets l (width * c) (flatMap f (firstOf item i))
+        → sets now (width * (c + i)) (f (item i)) ≡ sets l (width * c) (flatMap f (firstOf item (i + 1)))
+    laid-on l now item c i e =
+        let n : width * (c + i) ≡ width * c + length (flatMap f (firstOf item i))
+        = omega (arith, mul-add width c i, length-flat (firstOf item i), ap (λ (k : ℕ). width * k) (length-firstOf item i)) in
+        ap₂ (λ (m : List B) (k : ℕ). sets m k (f (item i))) e n
+        ∙ sym (sets-append l (width * c) (flatMap f (firstOf item i)) (f (item i)))
+        ∙ ap (sets l (width * c)) (sym (flat-more item i))
+
+    -- all rows from the start
+    pub laid-over : (l : List B) (item : ℕ → A) (n : ℕ) → width * n ≤ length l → sets l (width * 0) (flatMap f (firstOf item n)) ≡ over l (flatMap f (firstOf item n))
+    laid-over l item n h =
+        let z : width * 0 ≡ 0 = omega arith in
+        ap (λ (k : ℕ). sets l k (flatMap f (firstOf item n))) z
+        ∙ sets-over l (flatMap f (firstOf item n)) (omega (arith, length-flat (firstOf item n), ap (λ (k : ℕ). width * k) (length-firstOf item n)))
+
+    -- rows behind those that stand from the start
+    pub over-behind : (l : List B) (xs ys : List A) (c : ℕ) → length xs ≡ c → width * (c + length ys) ≤ length l
+        → sets (over l (flatMap f xs)) (width * c) (flatMap f ys) ≡ over l (flatMap f (xs ++ ys))
+    over-behind l xs ys c e h =
+        let n : length (flatMap f xs) ≡ width * c = length-flat xs ∙ ap (λ (k : ℕ). width * k) e in
+        let m = length-flat ys in
+        ap₂ (λ (r : List B) (k : ℕ). sets r k (flatMap f ys)) (sym (sets-over l (flatMap f xs) (omega (arith, mul-add width c (length ys))))) (sym n ∙ sym (zero-add (length (flatMap f xs))))
+        ∙ sym (sets-append l 0 (flatMap f xs) (flatMap f ys))
+        ∙ ap (sets l 0) (sym (flat-append xs ys))
+        ∙ sets-over l (flatMap f (xs ++ ys)) (omega (arith, ap length (flat-append xs ys), length-append (flatMap f xs) (flatMap f ys), mul-add width c (length ys)))
