@@ -15,7 +15,8 @@ use Rattle.geom.specs.Memory.{firstOf}
 use Rattle.geom.proofs.Books.{same-pair}
 use Rattle.book.specs.Cells.{wordAt, cells, bucketOf, pairAt, pairsOf, bucketAt, Latest, Linked}
 use Rattle.book.specs.Answers.{InBucket, Entered}
-use Rattle.book.proofs.Search.{samePair-same, find-nowhere, find-first, nowhere, firstOf-same}
+use Rattle.geom.proofs.Rows.{firstOf-same}
+use Rattle.book.proofs.Search.{samePair-same, find-nowhere, find-first, nowhere}
 
 le-or-lt : (m n : ℕ) → (m ≤ n) ⊎ (n < m)
 le-or-lt m n = by-cases (decLe m n) inl (λ k. inr (omega arith))

@@ -14,7 +14,7 @@ use Rattle.book.specs.declared.Asked.{Asked}
 use Rattle.book.specs.declared.Asked.the-variants.{Vertex, Full}
 use Rattle.book.specs.Cells.{pairsOf}
 use Rattle.book.specs.Answers.{Entered, Ready, Placed, Answered}
-use Rattle.book.proofs.Search.{length-firstOf}
+use Rattle.geom.proofs.Rows.{length-firstOf}
 use Rattle.book.proofs.Links.{entered, entered-pairs}
 
 -- the book on the cells has as many entries as are made

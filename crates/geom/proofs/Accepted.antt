@@ -8,7 +8,7 @@ use native.Mathlib.Nat.{le-div-iff-mul-le, suc-mul, mul-comm, zero-lt-suc}
 use native.Mathlib.Omega.{arith}
 use lib.Dec.{T, eqb, leb, leb→le, ltb→lt}
 use lib.Ieee.Fits.{and-l, and-r}
-use lib.ListN.{length, take, drop, length-take, length-drop, length-append}
+use lib.ListN.{length, take, drop, length-take, length-drop}
 use Rattle.geom.specs.declared.answer.Sizes.{Sizes}
 use Rattle.geom.specs.Book.{Kind, cubes, simplices}
 use Rattle.geom.specs.Elements.{Curve}
@@ -17,6 +17,7 @@ use Rattle.geom.specs.Answers.{accepted, refused, Due, firstDue}
 use Rattle.geom.specs.Memory.{Bench, cells, ElementRow, CurveRow, StepRow, Rows, firstOf, elementRow, rowsOf, areaCorners, volumeCorners, elementOf, curvesOf, meshOf}
 use Rattle.geom.specs.Refinement.{within}
 use Rattle.geom.specs.Refusals.{every, goodParity, goodNumber, curveLengths, countsHold, numbersHold, handedIn, Desk, benchesHold, refinementVerdict}
+use Rattle.geom.proofs.Rows.{length-firstOf}
 use Rattle.geom.proofs.Lists.{All, all-map, all-append, all-of-map}
 use Rattle.geom.proofs.Well.{Below, Proper, Well}
 
@@ -42,11 +43,6 @@ every-holds test [] t = tt
 every-holds test (x ∷ xs) t = (and-l (test x) (every test xs) t, every-holds test xs (and-r (test x) (every test xs) t))
 
 -- ---- rows
-
-pub length-firstOf : {A : Type 0} (at : ℕ → A) (n : ℕ) → length (firstOf at n) ≡ n
-unfolding firstOf
-length-firstOf at zero = refl
-length-firstOf at (suc n) = simp (length-append, length-firstOf at n) (omega arith)
 
 all-firstOf : {A : Type 0} (P : A → Type 0) (at : ℕ → A) (n : ℕ) → ((i : ℕ) → i < n → P (at i)) → All P (firstOf at n)
 unfolding firstOf

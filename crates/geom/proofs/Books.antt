@@ -29,7 +29,7 @@ none-found e = let z : _≡_ {A = ℕ} 0 1 = cc in omega arith
 found-injective : {v w : ℕ} → found v ≡ found w → v ≡ w
 found-injective e = cc
 
-find-grows : (b : ℕ) (book more : Book) (q : Pair) (v : ℕ) → find b book q ≡ found v → find b (book ++ more) q ≡ found v
+pub find-grows : (b : ℕ) (book more : Book) (q : Pair) (v : ℕ) → find b book q ≡ found v → find b (book ++ more) q ≡ found v
 unfolding find
 find-grows b [] more q v e = absurd (none-found e)
 find-grows b (p ∷ book) more q v e = go (samePair p q) (find-grows (suc b) book more q v) e

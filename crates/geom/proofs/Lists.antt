@@ -70,6 +70,14 @@ pub and-true-right : (a b : Bool) → (a && b) ≡ true → b ≡ true
 and-true-right true b e = e
 and-true-right false b e = let z : _≡_ {A = ℕ} 0 1 = cc in absurd (omega arith)
 
+pub and-true : (b : Bool) → (b && true) ≡ b
+and-true true = refl
+and-true false = refl
+
+pub and-false : (b : Bool) → (b && false) ≡ false
+and-false true = refl
+and-false false = refl
+
 pub same-list : (xs ys : List ℕ) → sameList xs ys ≡ true → xs ≡ ys
 unfolding sameList
 same-list [] [] e = refl

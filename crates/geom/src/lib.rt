@@ -2,3 +2,4 @@
 pub mod answer;
 pub mod parity;
 pub mod vertex;
+pub mod words;

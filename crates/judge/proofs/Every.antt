@@ -18,18 +18,11 @@ use lib.Seq.{take-suc, getD-drop}
 use Rattle.geom.specs.Memory.{ElementRow, StepRow, firstOf, vertexRow, elementRow, stepRow}
 use Rattle.geom.specs.Refusals.{every, goodNumber, goodFlags, goodParity, goodCoordinate, goodPosition}
 use Rattle.judge.specs.Words.{wordAt, columnBelow, Column, Elements}
-
-and-true : (b : Bool) → (b && true) ≡ b
-and-true true = refl
-and-true false = refl
+use Rattle.geom.proofs.Lists.{and-true, and-false}
 
 and-assoc : (a b c : Bool) → (a && b && c) ≡ (a && (b && c))
 and-assoc true b c = refl
 and-assoc false b c = refl
-
-and-false : (b : Bool) → (b && false) ≡ false
-and-false true = refl
-and-false false = refl
 
 pub every-append : {A : Type 0} (test : A → Bool) (xs ys : List A) → every test (xs ++ ys) ≡ (every test xs && every test ys)
 unfolding every
@@ -151,12 +144,6 @@ unfolding stepRow
 steps-column steps n count =
     every-same (goodNumber count) (wordAt steps 2 0) (λ (s : StepRow). goodNumber count (s .vertex)) (stepRow steps) n
     (λ i h. rw (add-zero (2 * i)) refl)
-
--- what stands past the end is never read
-pub getD-any : {A : Type 0} (l : List A) (i : ℕ) (d e : A) → i < length l → getD l i d ≡ getD l i e
-getD-any [] i d e h = absurd (omega arith)
-getD-any (x ∷ l) zero d e h = refl
-getD-any (x ∷ l) (suc i) d e h = getD-any l i d e (omega arith)
 
 -- four coordinates a vertex
 and-four : (e a b c d : Bool) → (e && a && b && c && d) ≡ (e && (a && b && c && d))

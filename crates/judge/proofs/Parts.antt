@@ -9,13 +9,13 @@ use native.Mathlib.Nat.{eq-or-lt-of-le}
 use native.Mathlib.Numerals.{add-one}
 use native.Mathlib.Omega.{arith}
 use lib.Dec.{eqb, leb·suc-suc}
-use lib.ListN.{length, getD, take, drop, length-drop, List·getD-append}
-use lib.Seq.{take-suc, getD-drop, drop-drop, getD-at}
+use lib.ListN.{length, getD, take, drop, length-drop}
+use lib.Seq.{take-suc, getD-drop, drop-drop}
 use borrow.Author.Tests.{eqb-true, eqb-false, eq-eqb, ne-eqb}
 use Rattle.geom.specs.Memory.{CurveRow, StepRow, firstOf, curveRow, stepRow, stepWords, curveParts}
 use Rattle.geom.specs.Refusals.{every, goodParity, goodNumber, goodCurve, curveLengths}
-use Rattle.geom.proofs.Accepted.{length-firstOf}
 use Rattle.judge.specs.Words.{wordAt, columnBelow, Parts}
+use Rattle.geom.proofs.Rows.{length-firstOf, getD-firstOf}
 use Rattle.judge.proofs.Every.{every-same, every-on, every-off, every-done}
 
 -- ---- a curve has vertices
@@ -109,15 +109,6 @@ parts-rows at zero steps = refl
 parts-rows at (suc n) steps =
     parts-append (firstOf at n) (at n ∷ []) steps
     ∙ ap (λ (l : List (List StepRow)). l ++ part at steps n ∷ []) (parts-rows at n steps)
-
-getD-firstOf : {A : Type 0} (at : ℕ → A) (d : A) (i n : ℕ) → i < n → getD (firstOf at n) i d ≡ at i
-unfolding firstOf
-getD-firstOf at d i zero h = absurd (omega arith)
-getD-firstOf at d i (suc n) h = go (getD-firstOf at d i n) (eq-or-lt-of-le {n = i} {m = n} (omega arith))
-  where
-    go : (i < n → getD (firstOf at n) i d ≡ at i) → (i ≡ n) ⊎ (i < n) → getD (firstOf at n ++ at n ∷ []) i d ≡ at i
-    go rest (inl e) = getD-at (firstOf at n) (at n) [] d i (length-firstOf at n ∙ sym e) ∙ ap at (sym e)
-    go rest (inr l) = List·getD-append (firstOf at n) (at n ∷ []) d i (omega (arith, length-firstOf at n)) ∙ rest l
 
 slice-firstOf : {A : Type 0} (at : ℕ → A) (d : A) (a c n : ℕ) → a + c ≤ n → take c (drop a (firstOf at n)) ≡ firstOf (λ (k : ℕ). at (a + k)) c
 unfolding firstOf

@@ -5,27 +5,12 @@ ghost use Prim.Native.Nat.{ℕ, _+_, _*_, _≤_, _<_};
 ghost use lib.Dec.{eqb};
 ghost use lib.Ieee.{Float};
 ghost use lib.ListN.{length, getD, take, drop};
-ghost use Rattle.numbers.specs.Binary32 as Binary32;
 ghost use Rattle.geom.specs.declared.vertex.Vertex.{Vertex};
 ghost use Rattle.geom.specs.Memory.{ElementRow, StepRow, firstOf, vertexRow, elementRow, curveRow, stepRow, stepWords, curveParts};
 ghost use Rattle.geom.specs.Refusals.{every, goodFlags, goodParity, goodCoordinate, goodPosition, goodNumber, goodCurve, curveLengths};
 ghost use Rattle.judge.specs.Words.{columnBelow, Column, Elements, Parts};
-
-// A word, as wide as a count.
-fn word(words: &[u32], i: usize) -> usize
-    requires { ⌜ i < length (now words) ⌝ }
-    ensures { λ r. ⌜ r ≡ getD (now (words .entry)) i 0 ⌝ }
-{
-    words[i] as usize
-}
-
-// A coordinate.
-fn number(words: &[f32], i: usize) -> f32
-    requires { ⌜ i < length (now words) ⌝ }
-    ensures { λ r. ⌜ r ≡ getD (now (words .entry)) i Binary32.zero ⌝ }
-{
-    words[i]
-}
+use geom::words::number;
+use geom::words::word;
 
 // Whether one word of each row is below the bound.
 pub fn column_below(words: &[u32], width: usize, column: usize, rows: usize, bound: usize) -> bool

@@ -14,11 +14,11 @@ use Rattle.geom.specs.Book.{simplices, Book, Made, mids}
 use Rattle.geom.specs.Elements.{Element, pointAt, pick, pieces, assemble, pairsOf as edgePairs}
 use Rattle.geom.specs.Rules.{divide}
 use Rattle.geom.specs.Memory.{firstOf, elementRow, elementOf, elementWords, parityOf}
-use Rattle.book.proofs.Search.{length-firstOf}
 use Rattle.simplicial.specs.Writing.{written, Extends, Exceeds}
 use Rattle.simplicial.specs.Shapes.{tableOf, shapeOf, edgesOf}
 use Rattle.simplicial.specs.Middles.{middlesOf, Middled}
-use Rattle.simplicial.proofs.Rows.{map-firstOf, firstOf-part, take-written}
+use Rattle.geom.proofs.Rows.{length-firstOf, map-firstOf}
+use Rattle.simplicial.proofs.Rows.{firstOf-part, take-written}
 use Rattle.simplicial.proofs.Folds.{mids-grows}
 use Rattle.simplicial.proofs.Middles.{middles-all, length-middles}
 use Rattle.simplicial.proofs.Dividing.{pieceAt, pieces-rows, row-within, length-pick, length-words}

@@ -14,7 +14,8 @@ use Rattle.geom.specs.Elements.{Element, Row, pointAt, pick, pieces, flat}
 use Rattle.geom.specs.Memory.{firstOf, elementRow, elementWords, parityOf, parityWord}
 use Rattle.simplicial.specs.Writing.{written}
 use Rattle.simplicial.specs.Shapes.{rowOf, tableOf}
-use Rattle.simplicial.proofs.Rows.{flatMap-append, map-firstOf, written-none, written-set, written-more, length-written}
+use Rattle.geom.proofs.Rows.{map-firstOf}
+use Rattle.simplicial.proofs.Rows.{flatMap-append, written-none, written-set, written-more, length-written}
 
 -- ── rows of elements ──
 

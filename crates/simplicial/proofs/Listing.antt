@@ -12,7 +12,8 @@ use Rattle.geom.specs.Elements.{Element}
 use Rattle.geom.specs.Memory.{firstOf, elementRow, elementOf, elementWords, over}
 use Rattle.book.specs.Cells.{pairsOf}
 use Rattle.simplicial.specs.Writing.{written, Begun, Extends, Exceeds, Listed}
-use Rattle.simplicial.proofs.Rows.{map-firstOf, written-none, written-more, written-over}
+use Rattle.geom.proofs.Rows.{map-firstOf}
+use Rattle.simplicial.proofs.Rows.{written-none, written-more, written-over}
 use Rattle.simplicial.proofs.Folds.{upTo, upTo-on, made-grows, book-grows}
 use Rattle.simplicial.proofs.Dividing.{words-append}
 

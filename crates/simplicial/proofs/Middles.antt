@@ -15,7 +15,8 @@ use Rattle.book.specs.Answers.{Ready, Placed}
 use Rattle.simplicial.specs.Writing.{written}
 use Rattle.simplicial.specs.Shapes.{below, edgeAt, edgesOf}
 use Rattle.simplicial.specs.Middles.{middlesOf, Middled}
-use Rattle.simplicial.proofs.Rows.{map-firstOf, written-none, written-set, written-before, length-written}
+use Rattle.geom.proofs.Rows.{map-firstOf}
+use Rattle.simplicial.proofs.Rows.{written-none, written-set, written-before, length-written}
 use Rattle.simplicial.proofs.Tables.{below-at}
 use Rattle.simplicial.proofs.Folds.{upTo, upTo-on, book-grows, place-grows, length-placed}
 

@@ -13,8 +13,8 @@ use Rattle.geom.specs.declared.parity.Parity.the-variants.{Even, Odd}
 use Rattle.geom.specs.Elements.{Element}
 use Rattle.geom.specs.Memory.{firstOf, elementRow, elementOf, elementWords, over, parityOf, parityWord}
 use Rattle.geom.proofs.Lists.{All}
-use Rattle.book.proofs.Search.{firstOf-same}
-use Rattle.simplicial.proofs.Rows.{map-firstOf, firstOf-cons}
+use Rattle.geom.proofs.Rows.{firstOf-same, map-firstOf}
+use Rattle.simplicial.proofs.Rows.{firstOf-cons}
 use Rattle.simplicial.proofs.Dividing.{rowWords}
 use Rattle.simplicial.proofs.Listing.{elementAt}
 

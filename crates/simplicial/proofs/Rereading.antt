@@ -14,9 +14,9 @@ use Rattle.geom.specs.Memory.{CurveRow, StepRow, firstOf, curveRow, stepRow, st
 use Rattle.geom.specs.Refusals.{curveLengths}
 use Rattle.geom.proofs.Lists.{All}
 use Rattle.simplicial.specs.Threads.{curvesIn, curveWords, vertexWords}
+use Rattle.geom.proofs.Rows.{firstOf-same}
 use Rattle.simplicial.proofs.Rows.{firstOf-cons, flatMap-append}
 use Rattle.simplicial.proofs.Reading.{word-back}
-use Rattle.book.proofs.Search.{firstOf-same}
 
 -- one parity fewer than vertices
 abbrev pub Whole : Curve → Type 0

@@ -1,7 +1,7 @@
 -- From cells to definitions, over the width: what a slice holds after words were written into it, and lists read off by their places.
 -- Assumes nothing.
 use mathlib.Core.Path.{_≡_, refl, sym, _∙_, ap}
-use mathlib.Core.List.{List, [], _∷_, _++_, map, map-append, flatMap, append-assoc, append-nil}
+use mathlib.Core.List.{List, [], _∷_, _++_, map, flatMap, append-assoc, append-nil}
 use Prim.Native.Nat.{ℕ, zero, suc, _+_, _<_, _≤_}
 use native.Mathlib.Omega.{arith}
 use native.Mathlib.Nat.{add-zero, zero-add}
@@ -10,8 +10,8 @@ use lib.ListN.{length, getD, take, drop, set, length-append, length-drop, take-a
 use lib.Seq.{length-take-le, set-at, take-at, drop-at, drop-cons, drop-drop, getD-take, getD-drop, take-suc}
 use Rattle.geom.specs.Elements.{pointAt, pick}
 use Rattle.geom.specs.Memory.{firstOf, over}
-use Rattle.book.proofs.Search.{length-firstOf}
 use Rattle.simplicial.specs.Writing.{written}
+use Rattle.geom.proofs.Rows.{length-firstOf, map-firstOf}
 
 -- ── writing ──
 
@@ -102,12 +102,6 @@ pub firstOf-cons : {A : Type 0} (f : ℕ → A) (n : ℕ) → firstOf f (suc n) 
 unfolding firstOf
 firstOf-cons f zero = refl
 firstOf-cons {A} f (suc n) = ap (λ (r : List A). r ++ f (suc n) ∷ []) (firstOf-cons f n)
-
-pub map-firstOf : {A B : Type 0} (f : A → B) (at : ℕ → A) (n : ℕ) → map f (firstOf at n) ≡ firstOf (λ (i : ℕ). f (at i)) n
-unfolding firstOf
-map-firstOf f at zero = refl
-map-firstOf f at (suc n) =
-    map-append f (firstOf at n) (at n ∷ []) ∙ ap (λ (r : List _). r ++ f (at n) ∷ []) (map-firstOf f at n)
 
 -- a part of a list is its words in order
 pub firstOf-part :

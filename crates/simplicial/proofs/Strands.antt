@@ -13,9 +13,9 @@ use Rattle.geom.specs.Rules.{stepEnds, steps, between, doubled, curve, curveFro
 use Rattle.geom.specs.Mesh.{curveVertices}
 use Rattle.geom.specs.Memory.{firstOf, stepsWords, parityWord}
 use Rattle.book.specs.Cells.{pairsOf}
-use Rattle.book.proofs.Search.{length-firstOf}
 use Rattle.simplicial.specs.Writing.{written}
 use Rattle.simplicial.specs.Threads.{vertexAt, parityAt, stepAt, threadTo, quads, Threads, curveAt, curveWords, vertexWords, Spread, Strings}
+use Rattle.geom.proofs.Rows.{length-firstOf}
 use Rattle.simplicial.proofs.Rows.{firstOf-cons, written-none, written-more}
 use Rattle.simplicial.proofs.Folds.{length-placed, mids-grows}
 use Rattle.simplicial.proofs.Threading.{length-quads}

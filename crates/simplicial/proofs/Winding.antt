@@ -8,8 +8,8 @@ use Prim.Native.Nat.{ℕ, zero, suc, _+_, _*_, _-_, _<_, _≤_}
 use native.Mathlib.Omega.{arith}
 use native.Mathlib.Nat.{eq-or-lt-of-le, zero-add}
 use native.Mathlib.Numerals.{add-one}
-use lib.ListN.{length, getD, take, drop, length-append, List·getD-append}
-use lib.Seq.{drop-drop, getD-at}
+use lib.ListN.{length, getD, take, drop, length-append}
+use lib.Seq.{drop-drop}
 use Rattle.geom.specs.Book.{simplices, Book, Made, each}
 use Rattle.geom.specs.Elements.{Curve}
 use Rattle.geom.specs.Rules.{curve, curveFrom}
@@ -17,10 +17,10 @@ use Rattle.geom.specs.Mesh.{curveVertices}
 use Rattle.geom.specs.Memory.{CurveRow, StepRow, firstOf, curveRow, stepRow, stepWords, curvesOf, parityOf, over}
 use Rattle.geom.specs.Refusals.{curveLengths}
 use Rattle.book.specs.Cells.{pairsOf}
-use Rattle.book.proofs.Search.{length-firstOf, firstOf-same}
 use Rattle.simplicial.specs.Writing.{written}
 use Rattle.simplicial.specs.Threads.{curveAt, curvesIn, curveWords, vertexWords, Spread, Strings, Wound}
-use Rattle.simplicial.proofs.Rows.{flatMap-append, map-firstOf, firstOf-part, written-none, written-more, written-over}
+use Rattle.geom.proofs.Rows.{length-firstOf, getD-firstOf, firstOf-same, map-firstOf}
+use Rattle.simplicial.proofs.Rows.{flatMap-append, firstOf-part, written-none, written-more, written-over}
 use Rattle.simplicial.proofs.Folds.{upTo, upTo-on, made-grows, book-grows}
 use Rattle.simplicial.proofs.Strands.{curve-grows}
 
@@ -51,17 +51,6 @@ start-grows rows i (suc n) l =
 
 -- ── the curves in memory ──
 
-getD-firstOf : {A : Type 0} (f : ℕ → A) (n i : ℕ) (d : A) → i < n → getD (firstOf f n) i d ≡ f i
-unfolding firstOf
-getD-firstOf f zero i d l = absurd (omega arith)
-getD-firstOf f (suc n) i d l =
-    let ih = getD-firstOf f n i d in
-    let m = length-firstOf f n in
-    ⊎-elim
-    (λ (e : i ≡ n). getD-at (firstOf f n) (f n) [] d i (omega arith) ∙ ap f (sym e))
-    (λ (k : i < n). List·getD-append (firstOf f n) (f n ∷ []) d i (omega arith) ∙ ih k)
-    (eq-or-lt-of-le (omega arith))
-
 -- a part of a list that is read off by its places
 part-places :
     {A : Type 0} (d : A) (f : ℕ → A) (total from n : ℕ) → from + n ≤ total
@@ -69,7 +58,7 @@ part-places :
 part-places d f total from n l =
     sym (firstOf-part d (firstOf f total) from n (omega (arith, length-firstOf f total)))
     ∙ firstOf-same (λ (j : ℕ). getD (firstOf f total) (from + j) d) (λ (j : ℕ). f (from + j)) n
-    (λ j k. getD-firstOf f total (from + j) d (omega arith))
+    (λ j k. getD-firstOf f d (from + j) total (omega arith))
 
 step-words-snoc : (xs : List StepRow) (x : StepRow) → stepWords (xs ++ x ∷ []) ≡ map (λ (r : StepRow). r .step) xs
 unfolding stepWords

@@ -13,7 +13,7 @@ use Rattle.geom.specs.Smoothing.{columnRule, cubeRule, CUBE-WEIGHTS}
 use Rattle.vertices.specs.declared.rules.Rule.{Rule}
 use Rattle.vertices.specs.Results.{resultOf}
 use Rattle.vertices.specs.Cells.{pointRow, points, Corners}
-use Rattle.vertices.proofs.Written.{getD-any}
+use Rattle.geom.proofs.Rows.{getD-any}
 use Rattle.vertices.proofs.Gathering.{length-part}
 
 module _ (positions : List Float) (words : List ℕ) (start n count k : ℕ) (cs : Corners words start n count) where

@@ -22,7 +22,8 @@ use Rattle.geom.specs.Memory.{firstOf, vertexRow, elementRow, elementOf}
 use Rattle.geom.specs.Vertices.{positionAt}
 use Rattle.geom.specs.Smoothing.{Gathered, nothing, ignored, update, toCorners, gather}
 use Rattle.vertices.specs.Cells.{positionWords, pointRow, points, elementsOf, gatheredRow, Lent, MOST, Corners, Elements}
-use Rattle.vertices.proofs.Written.{getD-firstOf, getD-sets-past}
+use Rattle.geom.proofs.Rows.{getD-firstOf}
+use Rattle.vertices.proofs.Written.{getD-sets-past}
 
 pub two-stores : {A : Type 0} (l : List A) (a : ℕ) (x y : A) → set (set l a x) (a + 1) y ≡ sets l a (x ∷ y ∷ [])
 two-stores l a x y = rw (add-one a) refl

@@ -12,9 +12,9 @@ use Rattle.geom.specs.declared.vertex.Vertex.{Vertex}
 use Rattle.geom.specs.Memory.{firstOf, vertexRow}
 use Rattle.geom.specs.Vertices.{midpointVertex, vertexAt, pairVertex}
 use Rattle.geom.specs.Smoothing.{withMidpoints}
-use Rattle.geom.proofs.Accepted.{length-firstOf}
 use Rattle.vertices.specs.Cells.{positionWords, markWords, positionsWords, marksWords, Row, Stand, Ends, pairRow, pairsFrom, Laid, Over}
-use Rattle.vertices.proofs.Written.{getD-firstOf, map-firstOf, sets-over, laid-on, over-behind, length-flat}
+use Rattle.geom.proofs.Rows.{length-firstOf, getD-firstOf, map-firstOf}
+use Rattle.vertices.proofs.Written.{sets-over, laid-on, over-behind, length-flat}
 
 -- a row of those that stand
 pub row-at : (positions : List Float) (marks : List ℕ) (n i : ℕ) → Stand positions marks n → i < n → Row positions marks i

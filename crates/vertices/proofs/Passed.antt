@@ -18,9 +18,9 @@ use Rattle.geom.specs.Elements.{Lists}
 use Rattle.geom.specs.Memory.{firstOf, vertexRow, over}
 use Rattle.geom.specs.Vertices.{vertexAt}
 use Rattle.geom.specs.Smoothing.{Gathered, gathered, moved, settled, settledFrom, smoothed}
-use Rattle.geom.proofs.Accepted.{length-firstOf}
 use Rattle.vertices.specs.Cells.{positionWords, markWords, positionsWords, marksWords, Over}
-use Rattle.vertices.proofs.Written.{getD-firstOf, length-flat}
+use Rattle.geom.proofs.Rows.{length-firstOf, getD-firstOf}
+use Rattle.vertices.proofs.Written.{length-flat}
 
 -- ---- rows read back
 

@@ -19,19 +19,12 @@ use Rattle.geom.specs.Elements.{Lists}
 use Rattle.geom.specs.Memory.{firstOf, vertexRow, over}
 use Rattle.geom.specs.Vertices.{flagged}
 use Rattle.geom.specs.Smoothing.{Gathered, gathered, replaced, moved, settled, settledFrom, smoothed}
-use Rattle.geom.proofs.Accepted.{length-firstOf}
 use Rattle.vertices.specs.Cells.{positionWords, positionsWords, pointRow, gatheredRow}
-use Rattle.vertices.proofs.Written.{firstOf-same, getD-sets-past, laid-on, laid-over, length-flat}
+use Rattle.geom.proofs.Lists.{and-true, and-false}
+use Rattle.geom.proofs.Rows.{length-firstOf, firstOf-same}
+use Rattle.vertices.proofs.Written.{getD-sets-past, laid-on, laid-over, length-flat}
 
 -- ---- one vertex
-
-and-true : (b : Bool) → (b && true) ≡ b
-and-true true = refl
-and-true false = refl
-
-and-false : (b : Bool) → (b && false) ≡ false
-and-false true = refl
-and-false false = refl
 
 or-true : (b : Bool) → (b || true) ≡ true
 or-true true = refl

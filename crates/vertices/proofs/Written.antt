@@ -1,22 +1,15 @@
 -- From cells to definitions, over the width of a row: rows written one after the other, read back, and written over what a slice held.
 -- Assumes nothing.
 use mathlib.Core.Path.{_≡_, refl, sym, _∙_, ap, ap₂}
-use mathlib.Core.List.{List, [], _∷_, _++_, map, flatMap, append-nil, append-assoc, map-append}
-use mathlib.Core.Logic.{_⊎_, inl, inr}
-use Prim.Native.Nat.{ℕ, zero, suc, _+_, _*_, _≤_, _<_}
-use native.Mathlib.Nat.{mul-add, mul-suc, eq-or-lt-of-le, zero-add}
+use mathlib.Core.List.{List, [], _∷_, _++_, flatMap, append-nil, append-assoc}
+use Prim.Native.Nat.{ℕ, suc, _+_, _*_, _≤_}
+use native.Mathlib.Nat.{mul-add, mul-suc, zero-add}
 use native.Mathlib.Numerals.{add-one, towards-suc}
 use native.Mathlib.Omega.{arith}
-use lib.ListN.{length, getD, drop, set, length-append, List·getD-append}
-use lib.Seq.{sets, sets-eq, getD-at, getD-set-other}
+use lib.ListN.{length, getD, drop, set, length-append}
+use lib.Seq.{sets, sets-eq, getD-set-other}
 use Rattle.geom.specs.Memory.{firstOf, over}
-use Rattle.geom.proofs.Accepted.{length-firstOf}
-
--- what stands past the end is never read
-pub getD-any : {A : Type 0} (l : List A) (i : ℕ) (d e : A) → i < length l → getD l i d ≡ getD l i e
-getD-any [] i d e h = absurd (omega arith)
-getD-any (x ∷ l) zero d e h = refl
-getD-any (x ∷ l) (suc i) d e h = getD-any l i d e (omega arith)
+use Rattle.geom.proofs.Rows.{length-firstOf}
 
 pub four-stores : {A : Type 0} (l : List A) (a : ℕ) (x y z w : A)
     → set (set (set (set l a x) (a + 1) y) (a + 2) z) (a + 3) w ≡ sets l a (x ∷ y ∷ z ∷ w ∷ [])
@@ -26,26 +19,6 @@ pub three-stores : {A : Type 0} (l : List A) (a : ℕ) (x y z : A) → set (set 
 three-stores l a x y z = simp towards-suc
 
 -- ---- rows read by place
-
-pub getD-firstOf : {A : Type 0} (at : ℕ → A) (d : A) (i n : ℕ) → i < n → getD (firstOf at n) i d ≡ at i
-unfolding firstOf
-getD-firstOf at d i zero h = absurd (omega arith)
-getD-firstOf at d i (suc n) h = go (getD-firstOf at d i n) (eq-or-lt-of-le {n = i} {m = n} (omega arith))
-  where
-    go : (i < n → getD (firstOf at n) i d ≡ at i) → (i ≡ n) ⊎ (i < n) → getD (firstOf at n ++ at n ∷ []) i d ≡ at i
-    go rest (inl e) = getD-at (firstOf at n) (at n) [] d i (length-firstOf at n ∙ sym e) ∙ ap at (sym e)
-    go rest (inr l) = List·getD-append (firstOf at n) (at n ∷ []) d i (omega (arith, length-firstOf at n)) ∙ rest l
-
-pub firstOf-same : {A : Type 0} (at at′ : ℕ → A) (n : ℕ) → ((i : ℕ) → i < n → at i ≡ at′ i) → firstOf at n ≡ firstOf at′ n
-unfolding firstOf
-firstOf-same at at′ zero h = refl
-firstOf-same at at′ (suc n) h =
-    ap₂ (λ (xs : List _) (x : _). xs ++ x ∷ []) (firstOf-same at at′ n (λ i k. h i (omega arith))) (h n (omega arith))
-
-pub map-firstOf : {A B : Type 0} (f : A → B) (at : ℕ → A) (n : ℕ) → map f (firstOf at n) ≡ firstOf (λ (i : ℕ). f (at i)) n
-unfolding firstOf
-map-firstOf f at zero = refl
-map-firstOf f at (suc n) = map-append f (firstOf at n) (at n ∷ []) ∙ ap (λ (l : List _). l ++ f (at n) ∷ []) (map-firstOf f at n)
 
 -- ---- rows written one after the other
 

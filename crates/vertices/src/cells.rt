@@ -1,21 +1,14 @@
 // A vertex in lent cells: four floats of its position, three words of its marks. It goes through functions as a struct that holds the position.
 ghost use mathlib.Core.Path.{_≡_};
-ghost use Prim.Native.Nat.{_+_, _*_, _≤_, _<_};
-ghost use lib.ListN.{length, getD};
+ghost use Prim.Native.Nat.{_+_, _*_, _≤_};
+ghost use lib.ListN.{length};
 ghost use lib.Seq.{sets};
-ghost use Rattle.numbers.specs.Binary32 as Binary32;
 ghost use Rattle.geom.specs.Memory.{vertexRow};
 ghost use Rattle.geom.specs.Vertices.{midpointVertex};
 ghost use Rattle.vertices.specs.Cells.{positionWords, markWords, pointRow, Row};
 use geom::vertex::Vertex;
+use geom::words::number;
 use numbers::vec4::Vec4;
-
-fn number(words: &[f32], i: usize) -> f32
-    requires { ⌜ i < length (now words) ⌝ }
-    ensures { λ r. ⌜ r ≡ getD (now (words .entry)) i Binary32.zero ⌝ }
-{
-    words[i]
-}
 
 // The point in row i.
 pub fn point_at(words: &[f32], i: usize) -> Vec4

@@ -11,9 +11,9 @@ ghost use Rattle.vertices.specs.Cells.{verticesOf, elementsOf, gatheredR
 ghost use Rattle.vertices.specs.Results.{resultOf};
 use crate::cells::point_at;
 use crate::cells::put_point;
-use crate::make::word;
 use crate::rules::Rule;
 use crate::rules::result;
+use geom::words::word;
 use numbers::vec4::Vec4;
 
 // Count and touch are written to row i.

@@ -2,7 +2,6 @@
 ghost use mathlib.Core.Path.{_≡_};
 ghost use mathlib.Core.List.{[], _∷_, map};
 ghost use Prim.Native.Nat.{_+_, _*_, _<_};
-ghost use lib.ListN.{length, getD};
 ghost use Rattle.geom.specs.Vertices.{pairVertex};
 ghost use Rattle.geom.specs.Smoothing.{withMidpoints};
 ghost use Rattle.vertices.specs.Cells.{verticesOf, Row, Stand, Ends, Pairs, pairRow, pairsFrom, Laid, Over};
@@ -11,14 +10,7 @@ use crate::cells::put_marks;
 use crate::cells::put_point;
 use crate::cells::vertex_at;
 use geom::vertex::Vertex;
-
-// A word, as wide as an index.
-pub fn word(words: &[u32], i: usize) -> usize
-    requires { ⌜ i < length (now words) ⌝ }
-    ensures { λ r. ⌜ r ≡ getD (now (words .entry)) i 0 ⌝ }
-{
-    words[i] as usize
-}
+use geom::words::word;
 
 // A vertex is written to row i.
 pub fn put_vertex(out: &mut [f32], notes: &mut [u32], i: usize, v: Vertex)

@@ -7,7 +7,7 @@ ghost use Rattle.geom.specs.Smoothing.{columnRule, cubeRule, LINE-WEIGHTS, SQUA
 ghost use Rattle.vertices.specs.Cells.{points, Corners};
 ghost use Rattle.vertices.specs.Results.{resultOf};
 use crate::cells::point_at;
-use crate::make::word;
+use geom::words::word;
 use numbers::vec4::Vec4;
 use numbers::vec4::columns;
 

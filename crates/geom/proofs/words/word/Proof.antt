@@ -1,8 +1,8 @@
--- `vertices::make::word` meets its contract. Assumes nothing.
+-- `geom::words::word` meets its contract. Assumes nothing.
 use native.Mathlib.Omega.{arith}
 use borrow.Author.Needs.{needs}
-use Rattle.vertices.proofs.make.word.Statement.{statement}
-use Rattle.vertices.proofs.make.word.Tie as tie
+use Rattle.geom.proofs.words.word.Statement.{statement}
+use Rattle.geom.proofs.words.word.Tie as tie
 
 mul-result : tie.Need-mul-result
 mul-result c = search needs

@@ -1,10 +1,10 @@
--- `judge::words::number` meets its contract. Assumes nothing.
+-- `geom::words::number` meets its contract. Assumes nothing.
 use borrow.Author.Needs.{needs}
 use lib.Ieee.{nan}
 use Rattle.numbers.specs.Binary32 as Binary32
-use Rattle.judge.proofs.Every.{getD-any}
-use Rattle.judge.proofs.words.number.Statement.{statement}
-use Rattle.judge.proofs.words.number.Tie as tie
+use Rattle.geom.proofs.Rows.{getD-any}
+use Rattle.geom.proofs.words.number.Statement.{statement}
+use Rattle.geom.proofs.words.number.Tie as tie
 
 mul-result : tie.Need-mul-result
 mul-result c = search needs
