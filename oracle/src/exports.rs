@@ -1,4 +1,7 @@
 //! The functions of libaljumeste.a. Each is defined at every input, so that a call needs no care.
+use crate::desk::{Desk, Told};
+use reference::mesh::{Kind, Sizes};
+
 extern "C" {
     fn aljumeste_root(x: f32) -> f32;
     fn aljumeste_normalise_3d(v: &mut [f32; 3]) -> bool;
@@ -15,4 +18,123 @@ pub fn normalise_3d(v: &mut [f32; 3]) -> bool {
 
 pub fn normalise_4d(v: &mut [f32; 4]) -> bool {
     unsafe { aljumeste_normalise_4d(v) }
+}
+
+/// The refinement of one kind, by the name of its export. Every slice crosses as a pointer and a length.
+macro_rules! refinement {
+    ($export:ident, $desk:expr, $sizes:expr, $depth:expr, $smooth_time:expr) => {{
+        extern "C" {
+            fn $export(
+                positions: *mut f32,
+                positions_words: usize,
+                marks: *mut u32,
+                marks_words: usize,
+                points: *mut u32,
+                points_words: usize,
+                lines: *mut u32,
+                lines_words: usize,
+                areas: *mut u32,
+                areas_words: usize,
+                volumes: *mut u32,
+                volumes_words: usize,
+                curves: *mut u32,
+                curves_words: usize,
+                steps: *mut u32,
+                steps_words: usize,
+                other_positions: *mut f32,
+                other_positions_words: usize,
+                other_marks: *mut u32,
+                other_marks_words: usize,
+                other_points: *mut u32,
+                other_points_words: usize,
+                other_lines: *mut u32,
+                other_lines_words: usize,
+                other_areas: *mut u32,
+                other_areas_words: usize,
+                other_volumes: *mut u32,
+                other_volumes_words: usize,
+                other_curves: *mut u32,
+                other_curves_words: usize,
+                other_steps: *mut u32,
+                other_steps_words: usize,
+                book: *mut u32,
+                book_words: usize,
+                sums: *mut f32,
+                sums_words: usize,
+                tallies: *mut u32,
+                tallies_words: usize,
+                sizes: &[usize; 7],
+                depth: u8,
+                smooth_time: u8,
+                answer: &mut [usize; 8],
+            ) -> u8;
+        }
+        let desk: &mut Desk = $desk;
+        let mut answer = [0; 8];
+        // A desk's slices are apart from each other, and every word of a position is a float.
+        let number = unsafe {
+            $export(
+                desk.first.pos.as_mut_ptr().cast(),
+                desk.first.pos.len(),
+                desk.first.marks.as_mut_ptr(),
+                desk.first.marks.len(),
+                desk.first.points.as_mut_ptr(),
+                desk.first.points.len(),
+                desk.first.lines.as_mut_ptr(),
+                desk.first.lines.len(),
+                desk.first.areas.as_mut_ptr(),
+                desk.first.areas.len(),
+                desk.first.volumes.as_mut_ptr(),
+                desk.first.volumes.len(),
+                desk.first.curves.as_mut_ptr(),
+                desk.first.curves.len(),
+                desk.first.curve_verts.as_mut_ptr(),
+                desk.first.curve_verts.len(),
+                desk.second.pos.as_mut_ptr().cast(),
+                desk.second.pos.len(),
+                desk.second.marks.as_mut_ptr(),
+                desk.second.marks.len(),
+                desk.second.points.as_mut_ptr(),
+                desk.second.points.len(),
+                desk.second.lines.as_mut_ptr(),
+                desk.second.lines.len(),
+                desk.second.areas.as_mut_ptr(),
+                desk.second.areas.len(),
+                desk.second.volumes.as_mut_ptr(),
+                desk.second.volumes.len(),
+                desk.second.curves.as_mut_ptr(),
+                desk.second.curves.len(),
+                desk.second.curve_verts.as_mut_ptr(),
+                desk.second.curve_verts.len(),
+                desk.book.as_mut_ptr(),
+                desk.book.len(),
+                desk.sums.as_mut_ptr().cast(),
+                desk.sums.len(),
+                desk.tallies.as_mut_ptr(),
+                desk.tallies.len(),
+                &$sizes.list(),
+                $depth,
+                $smooth_time,
+                &mut answer,
+            )
+        };
+        Told { number, answer }
+    }};
+}
+
+pub fn subdivide(kind: Kind, desk: &mut Desk, sizes: &Sizes, depth: u8, smooth_time: u8) -> Told {
+    match kind {
+        Kind::Simplices => {
+            refinement!(
+                aljumeste_subdivide_simplices,
+                desk,
+                sizes,
+                depth,
+                smooth_time
+            )
+        }
+        Kind::Cubes => {
+            refinement!(aljumeste_subdivide_cubes, desk, sizes, depth, smooth_time)
+        }
+    }
 }

@@ -1,12 +1,26 @@
-//! Compares the static library `aljumeste` with Rust's own arithmetic, bit for bit, where a NaN equals any NaN.
+//! Compares the static library `aljumeste` with Rust's own arithmetic, bit for bit, where a NaN equals any NaN, and with the original
+//! refinements in reference/.
 //!
 //! `all` takes the root of every one of the 2^32 patterns. `spread` takes the roots of a million patterns and normalises a million
-//! vectors of three and of four components.
+//! vectors of three and of four components. `KIND SEED COUNT` refines so many random meshes of a kind, cubes or simplices. `sample KIND`
+//! prints cases with the reference's answers, for other programs. `bench` measures speed. `ledger SEED COUNT` refines so many meshes of each
+//! kind, and holds the ledgers of what is left against document 01's section 5.
+mod bench;
+mod block;
+mod case;
+mod closed;
+mod desk;
+mod draw;
 mod exports;
+mod ledger;
 mod normal;
 mod random;
+mod refinement;
 mod root;
+mod sample;
+mod shrink;
 
+use reference::mesh::Kind;
 use std::{env, process::ExitCode};
 
 /// What a comparison found: how many inputs there were, on how many the two sides differ, and the first of those, in words.
@@ -51,24 +65,75 @@ fn same(a: f32, b: f32) -> bool {
 
 fn main() -> ExitCode {
     let words: Vec<String> = env::args().skip(1).collect();
-    let found = match words.iter().map(String::as_str).collect::<Vec<_>>()[..] {
-        ["all"] => vec![("roots", root::all())],
-        ["spread"] => vec![
+    let agree = match words.iter().map(String::as_str).collect::<Vec<_>>()[..] {
+        ["all"] => print(&[("roots", root::all())]),
+        ["spread"] => print(&[
             ("roots", root::spread()),
             ("normals of 3 components", normal::spread3()),
             ("normals of 4 components", normal::spread4()),
-        ],
-        _ => {
-            eprintln!("usage: cargo run --release -- all | spread");
-            return ExitCode::from(2);
+        ]),
+        ["sample", kind] => kind_named(kind).map(|kind| {
+            print!("{}", sample::sample(kind));
+            true
+        }),
+        ["bench"] => {
+            KINDS.into_iter().for_each(bench::tables);
+            Some(true)
         }
+        ["bench", "one", kind, size, side] => counted(kind, size, side),
+        ["ledger"] => ledgers("1", "3000"),
+        ["ledger", seed, cases] => ledgers(seed, cases),
+        [kind, seed, cases] => refined(kind, seed, cases),
+        _ => None,
     };
-    for (what, compared) in &found {
-        compared.print(what);
-    }
-    if found.iter().all(|(_, compared)| compared.apart == 0) {
-        ExitCode::SUCCESS
-    } else {
-        ExitCode::from(1)
+    match agree {
+        Some(true) => ExitCode::SUCCESS,
+        Some(false) => ExitCode::from(1),
+        None => {
+            eprintln!("usage: cargo run --release -- all | spread | KIND SEED COUNT | sample KIND | bench | bench one KIND SIZE SIDE | ledger [SEED COUNT]");
+            eprintln!("KIND is cubes or simplices, SIDE library, original or none");
+            ExitCode::from(2)
+        }
     }
 }
+
+/// Prints what each comparison found: whether all agree.
+fn print(found: &[(&str, Compared)]) -> Option<bool> {
+    for (what, compared) in found {
+        compared.print(what);
+    }
+    Some(found.iter().all(|(_, compared)| compared.apart == 0))
+}
+
+/// Prints what a comparison of random meshes found: whether all agree. None where a word is not understood.
+fn refined(kind: &str, seed: &str, cases: &str) -> Option<bool> {
+    let found = refinement::library(kind_named(kind)?, seed.parse().ok()?, cases.parse().ok()?);
+    found.print();
+    Some(found.apart.is_none())
+}
+
+/// Prints what the ledgers of random meshes showed, of both kinds: whether all are as document 01 says.
+fn ledgers(seed: &str, cases: &str) -> Option<bool> {
+    let (seed, cases) = (seed.parse().ok()?, cases.parse().ok()?);
+    let agree = KINDS.map(|kind| {
+        let found = ledger::compare(kind, seed, cases);
+        println!("{kind:?}:");
+        found.print();
+        found.apart.is_none()
+    });
+    Some(agree == [true; 2])
+}
+
+fn counted(kind: &str, size: &str, side: &str) -> Option<bool> {
+    bench::one(kind_named(kind)?, size.parse().ok()?, side).map(|()| true)
+}
+
+fn kind_named(name: &str) -> Option<Kind> {
+    match name {
+        "cubes" => Some(Kind::Cubes),
+        "simplices" => Some(Kind::Simplices),
+        _ => None,
+    }
+}
+
+const KINDS: [Kind; 2] = [Kind::Simplices, Kind::Cubes];

@@ -1,19 +1,16 @@
 //! Vectors to try, from a seeded generator: the same ones in every run.
+use reference::random::Rng;
 
-/// splitmix64 (Steele, Lea and Flood, 2014).
-pub struct Random(u64);
+/// splitmix64 (Steele, Lea and Flood, 2014), as the reference has it.
+pub struct Random(Rng);
 
 impl Random {
     pub fn new(seed: u64) -> Random {
-        Random(seed)
+        Random(Rng::new(seed))
     }
 
     fn next(&mut self) -> u64 {
-        self.0 = self.0.wrapping_add(0x9E37_79B9_7F4A_7C15);
-        let mut z = self.0;
-        z = (z ^ (z >> 30)).wrapping_mul(0xBF58_476D_1CE4_E5B9);
-        z = (z ^ (z >> 27)).wrapping_mul(0x94D0_49BB_1331_11EB);
-        z ^ (z >> 31)
+        self.0.draw()
     }
 
     /// A vector of one of three shapes: any patterns; exponents within three of each other, from anywhere in the range; or with

@@ -1,5 +1,7 @@
-// What other languages link: the square root and normalising, section 1 of document 01. The static library defines each function
-// under its own name, which begins with the crate's. None has a `requires`: every input is answered.
+// What other languages link: the square root and normalising, section 1 of document 01, and the refinements. The static library defines
+// each function under its own name, which begins with the crate's. None has a `requires`: every input is answered.
+pub mod refinement;
+
 ghost use mathlib.Core.Path.{_≡_};
 ghost use Rattle.numbers.specs.Root as Root;
 ghost use Rattle.aljumeste.specs.Cells as Cells;

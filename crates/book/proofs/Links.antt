@@ -4,16 +4,16 @@ use mathlib.Core.Path.{_≡_, sym, _∙_, ap, subst}
 use mathlib.Core.Bool.{true, false}
 use mathlib.Core.Logic.{_⊎_, _≢_, inl, inr, ⊎-elim, by-cases}
 use mathlib.Core.List.{List, [], _∷_, _++_}
-use Prim.Native.Nat.{ℕ, suc, _+_, _*_, _/_, _%_, _<_, _≤_}
+use Prim.Native.Nat.{ℕ, suc, _+_, _*_, _%_, _<_, _≤_, min}
 use native.Mathlib.Omega.{arith}
-use native.Mathlib.Nat.{mod-lt, eq-or-lt-of-le}
+use native.Mathlib.Nat.{mod-lt, mul-comm, mul-le-mul-left, eq-or-lt-of-le}
 use native.Mathlib.Decide.{decLe, ℕ-discrete}
 use lib.ListN.{length, getD, set, length-set}
 use lib.Seq.{getD-set-same, getD-set-other}
 use Rattle.geom.specs.Book.{Pair, pair, samePair, found, none, find}
 use Rattle.geom.specs.Memory.{firstOf}
 use Rattle.geom.proofs.Books.{same-pair}
-use Rattle.book.specs.Cells.{wordAt, cells, bucketOf, pairAt, pairsOf, bucketAt, Latest, Linked}
+use Rattle.book.specs.Cells.{wordAt, cells, mix, bucketOf, pairAt, pairsOf, bucketAt, Latest, Linked}
 use Rattle.book.specs.Answers.{InBucket, Entered}
 use Rattle.geom.proofs.Rows.{firstOf-same}
 use Rattle.book.proofs.Search.{samePair-same, find-nowhere, find-first, nowhere}
@@ -21,10 +21,25 @@ use Rattle.book.proofs.Search.{samePair-same, find-nowhere, find-first,
 le-or-lt : (m n : ℕ) → (m ≤ n) ⊎ (n < m)
 le-or-lt m n = by-cases (decLe m n) inl (λ k. inr (omega arith))
 
+mix-below : (q : Pair) → mix q < 4294967296
+unfolding mix
+mix-below q = mod-lt ((q .first * 2654435761 + q .second) % 4294967296 * 2246822507) (omega arith)
+
+-- the mix times a range of at most 2^32 has 64 bits
+pub scaled-fits : (n : ℕ) (q : Pair) {r : ℕ} → r ≡ min n 4294967296 → mix q * r < 18446744073709551616
+scaled-fits n q {r} e =
+    let below : mix q ≤ 4294967295 = omega (arith, mix-below q) in
+    let p = mul-le-mul-left r below in
+    omega (arith, p, mul-comm (mix q) r)
+
 -- a bucket is one of the cells
 pub bucket-below : (n : ℕ) (q : Pair) → 0 < n → bucketOf n q < n
 unfolding bucketOf
-bucket-below n q l = mod-lt ((q .first * 2654435761 + q .second) % 4294967296 * 2246822507 / 65536) l
+bucket-below n q l =
+    let r = min n 4294967296 in
+    let below : mix q ≤ 4294967295 = omega (arith, mix-below q) in
+    let p = mul-le-mul-left r below in
+    omega (arith, p, mul-comm (mix q) r)
 
 -- ── the search ──
 

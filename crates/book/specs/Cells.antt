@@ -4,7 +4,7 @@
 -- Assumes nothing.
 use mathlib.Core.Path.{_≡_}
 use mathlib.Core.List.{List}
-use Prim.Native.Nat.{ℕ, _+_, _*_, _/_, _%_, _<_, _≤_}
+use Prim.Native.Nat.{ℕ, _+_, _*_, _/_, _%_, _<_, _≤_, min}
 use lib.ListN.{length, getD}
 use Rattle.geom.specs.Book.{Pair, pair, Book}
 use Rattle.geom.specs.Memory.{firstOf}
@@ -17,9 +17,13 @@ wordAt words row k = getD words (4 * row + k) 0
 abbrev pub cells : List ℕ → ℕ
 cells words = length words / 4
 
--- the bucket of a pair among n
+-- a number of 32 bits from both ends of a pair
+unfoldable pub mix : Pair → ℕ
+mix q = (q .first * 2654435761 + q .second) % 4294967296 * 2246822507 % 4294967296
+
+-- the bucket of a pair among n: the mix, as a part of its range, of n (or of 2^32, if that is less)
 unfoldable pub bucketOf : ℕ → Pair → ℕ
-bucketOf n q = ((q .first * 2654435761 + q .second) % 4294967296 * 2246822507 / 65536) % n
+bucketOf n q = mix q * min n 4294967296 / 4294967296
 
 -- the pair of entry e
 abbrev pub pairAt : List ℕ → ℕ → Pair

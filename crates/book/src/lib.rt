@@ -2,11 +2,13 @@
 // pair in words 0 and 1 of row e, and in word 2 the entry before it in the same bucket; word 3 of row h is the newest entry of bucket h.
 // Nothing is cleared at the start: a link is believed only where it is below its limit and its pair falls in that bucket.
 ghost use mathlib.Core.Path.{_≡_};
-ghost use Prim.Native.Nat.{_+_, _*_, _^_, _≤_, _<_};
+ghost use Prim.Native.Nat.{_+_, _*_, _^_, _≤_, _<_, min};
 ghost use lib.ListN.{length};
 ghost use Rattle.geom.specs.Book.{cubes, simplices, pair, samePair, find as findIn};
+ghost use Rattle.geom.specs.Kinds.{kindOf};
 ghost use Rattle.book.specs.Cells.{wordAt, cells, pairsOf, Linked};
 ghost use Rattle.book.specs.Answers.{foundOf, InBucket, Entered, Ready, Answered};
+use geom::kind::Kind;
 
 // What the search of the book ends with: the vertex that it found, or none.
 pub enum Found {
@@ -28,13 +30,25 @@ fn word_at(book: &[u32], row: usize, k: usize) -> u32
     book[4 * row + k]
 }
 
-// The bucket of a pair: a fixed mix of both ends, modulo the lent cells.
+// How many buckets there are: the lent cells, and no more than a mix of 32 bits can tell apart.
+fn buckets(cells: usize) -> usize
+    ensures { λ r. ⌜ r ≡ min cells 4294967296 ⌝ }
+{
+    if cells < 4294967296 {
+        return cells;
+    }
+    4294967296
+}
+
+// The bucket of a pair: a fixed mix of both ends, scaled to the lent cells, which takes no division.
 fn bucket(cells: usize, a: u32, b: u32) -> usize
     requires { ⌜ 0 < cells ⌝ }
     ensures { λ r. ⌜ InBucket cells (pair a b) r ⌝ }
 {
     let mixed = (a as u64 * 2654435761 + b as u64) % 4294967296;
-    (mixed * 2246822507 / 65536) as usize % cells
+    let spread = mixed * 2246822507 % 4294967296;
+    let range = buckets(cells) as u64;
+    (spread * range / 4294967296) as usize
 }
 
 // Whether an entry's pair is [a,b]: directed, [b,a] is another.
@@ -124,4 +138,23 @@ pub fn cube_midpoint(
         return Asked::Vertex { vertex: a, made };
     }
     midpoint(book, made, room, base, a, b)
+}
+
+// The midpoint of [a,b] by the rule of the kind.
+pub fn midpoint_of(
+    kind: Kind,
+    book: &mut [u32],
+    made: usize,
+    room: usize,
+    base: usize,
+    a: u32,
+    b: u32,
+) -> Asked
+    requires { ⌜ Ready base room made (now book) ⌝ }
+    ensures { λ r. ⌜ Answered (kindOf kind) base room made (pair a b) (now (book .entry)) (now (book .exit)) r ⌝ }
+{
+    match kind {
+        Kind::Cubes => cube_midpoint(book, made, room, base, a, b),
+        Kind::Simplices => midpoint(book, made, room, base, a, b),
+    }
 }

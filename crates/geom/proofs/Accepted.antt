@@ -23,7 +23,7 @@ use Rattle.geom.proofs.Well.{Below, Proper, Well}
 
 -- ---- tests that passed
 
-none-due : (ds : List Due) → firstDue ds ≡ accepted → All (λ (d : Due). d .due ≡ false) ds
+pub none-due : (ds : List Due) → firstDue ds ≡ accepted → All (λ (d : Due). d .due ≡ false) ds
 unfolding firstDue
 none-due [] e = tt
 none-due (d ∷ ds) e = go (none-due ds) (d .due) refl e

@@ -10,7 +10,7 @@ use native.Mathlib.Omega.{arith}
 use lib.Dec.{eqb}
 use lib.ListN.{length, length-append}
 use Rattle.geom.specs.Book.{Kind, cubes, simplices, Pair, samePair, Book, Found, found, none, find, seek, vertexOr, bookOr, midpoint, Made, each, place, mids}
-use Rattle.geom.proofs.Lists.{All, same-number, eqb-same, and-true-left, and-true-right}
+use Rattle.geom.proofs.Lists.{All, all-append, same-number, eqb-same, and-true-left, and-true-right}
 
 -- ── the search ──
 
@@ -111,19 +111,21 @@ pub record Grown (base m : ℕ) (before after : Book) : Type 0 where
   pub more : Book
   pub is : after ≡ before ++ more
   pub rises : Rising base before → m ≤ base + length before → Rising base after
+  pub low : All (Low m) more
 
 pub grown-same : {base m : ℕ} {book : Book} → Grown base m book book
-grown-same {book = book} = record { more = []; is = sym (append-nil book); rises = λ r l. r }
+grown-same {book = book} = record { more = []; is = sym (append-nil book); rises = λ r l. r; low = tt }
 
 pub grown-length : {base m : ℕ} {x y : Book} → Grown base m x y → length x ≤ length y
 grown-length {x = x} {y = y} g = omega (arith, ap length (g .is), length-append x (g .more))
 
 pub grown-trans : {base m : ℕ} {x y z : Book} → Grown base m x y → Grown base m y z → Grown base m x z
-grown-trans {x = x} g h =
+grown-trans {m = m} {x = x} g h =
     record {
       more = g .more ++ h .more;
       is = h .is ∙ ap (λ (b : Book). b ++ h .more) (g .is) ∙ append-assoc x (g .more) (h .more);
       rises = λ r l. h .rises (g .rises r l) (omega (arith, grown-length g));
+      low = all-append (Low m) (g .more) (h .more) (g .low) (h .low);
     }
 
 pub grown-entry : (base m : ℕ) (book : Book) (q : Pair) (f : Found) → Low m q → Grown base m book (bookOr book q f)
@@ -133,6 +135,7 @@ grown-entry base m book q none l =
       more = q ∷ [];
       is = refl;
       rises = λ r k. rising-new base book q (record { start = omega (arith, l .start); stop = omega (arith, l .stop) }) r;
+      low = (l, tt);
     }
 
 -- a rule for each entry grows the book if the rule for one does

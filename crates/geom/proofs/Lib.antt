@@ -21,3 +21,7 @@ pub mod Demand3
 pub mod Left
 pub mod Accepted
 pub mod Refined
+-- A mesh that is written over a bench stands there, and a pass leaves such a mesh.
+pub mod Back
+pub mod Standing
+pub mod Forming

@@ -49,7 +49,7 @@ upFrom i zero = []
 upFrom i (suc k) = i ∷ upFrom (suc i) k
 
 -- a test that is true or false, with the equation
-true-is : (b : Bool) → T b → b ≡ true
+pub true-is : (b : Bool) → T b → b ≡ true
 true-is true t = refl
 true-is false t = absurd t
 

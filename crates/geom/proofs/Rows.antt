@@ -2,7 +2,7 @@
 -- Assumes nothing.
 use mathlib.Core.Path.{_≡_, refl, sym, ap, _∙_}
 use mathlib.Core.Logic.{_⊎_, inl, inr}
-use mathlib.Core.List.{List, [], _∷_, _++_, map, map-append}
+use mathlib.Core.List.{List, [], _∷_, _++_, map, map-append, flatMap, append-assoc}
 use Prim.Native.Nat.{ℕ, zero, suc, _<_}
 use native.Mathlib.Nat.{eq-or-lt-of-le}
 use native.Mathlib.Omega.{arith}
@@ -37,6 +37,18 @@ unfolding firstOf
 map-firstOf f at zero = refl
 map-firstOf f at (suc n) =
     map-append f (firstOf at n) (at n ∷ []) ∙ ap (λ (r : List _). r ++ f (at n) ∷ []) (map-firstOf f at n)
+
+-- a list by its first entry
+pub firstOf-cons : {A : Type 0} (at : ℕ → A) (n : ℕ) → firstOf at (suc n) ≡ at 0 ∷ firstOf (λ (i : ℕ). at (suc i)) n
+unfolding firstOf
+firstOf-cons at zero = refl
+firstOf-cons {A} at (suc n) = ap (λ (r : List A). r ++ at (suc n) ∷ []) (firstOf-cons at n)
+
+pub flatMap-append : {A B : Type 0} (f : A → List B) (xs ys : List A) → flatMap f (xs ++ ys) ≡ flatMap f xs ++ flatMap f ys
+unfolding flatMap
+flatMap-append f [] ys = refl
+flatMap-append {B = B} f (x ∷ xs) ys =
+    ap (λ (r : List B). f x ++ r) (flatMap-append f xs ys) ∙ sym (append-assoc (f x) (flatMap f xs) (flatMap f ys))
 
 -- what stands within a list does not depend on what is given past its end
 pub getD-any : {A : Type 0} (l : List A) (i : ℕ) (d e : A) → i < length l → getD l i d ≡ getD l i e

@@ -389,3 +389,8 @@ module _ (kind : Kind) (base : ℕ) (w : Went) (good : Good kind base w) where
 
   pub pass-good : Good kind base (pass kind base w)
   pass-good = subst (Good kind base) (sym (pass-is kind base w)) pass-good′
+
+  -- what a pass adds to the book are pairs of vertices that stood before it
+  pub pass-grows : Grown base m (w .book) (pass kind base w .book)
+  unfolding passBy
+  pass-grows = subst (λ (x : Went). Grown base m (w .book) (x .book)) (sym (pass-is kind base w)) all-grow

@@ -1,6 +1,7 @@
 -- Document 01 as definitions. Read in this order: the list rules and the ledger,
 pub mod Parity
 pub mod Book
+pub mod Kinds
 pub mod Elements
 pub mod Rules
 pub mod Simplices

@@ -185,6 +185,13 @@ stepsWords [] ps = []
 stepsWords (v ∷ vs) [] = v ∷ 0 ∷ stepsWords vs []
 stepsWords (v ∷ vs) (p ∷ ps) = v ∷ parityWord p ∷ stepsWords vs ps
 
+-- a row for each curve, and a row for each vertex of each curve
+unfoldable pub curveWords : List Curve → List ℕ
+curveWords = flatMap (λ (c : Curve). c .tag ∷ length (c .vertices) ∷ [])
+
+unfoldable pub vertexWords : List Curve → List ℕ
+vertexWords = flatMap (λ (c : Curve). stepsWords (c .vertices) (c .parities))
+
 unfoldable pub benchOf : Mesh → Bench
 benchOf m =
     record {
@@ -195,8 +202,8 @@ benchOf m =
       lines = elementWords (m .lists .lines);
       areas = elementWords (m .lists .areas);
       volumes = elementWords (m .lists .volumes);
-      curves = flatMap (λ (c : Curve). c .tag ∷ length (c .vertices) ∷ []) (m .lists .curves);
-      curveVertices = flatMap (λ (c : Curve). stepsWords (c .vertices) (c .parities)) (m .lists .curves);
+      curves = curveWords (m .lists .curves);
+      curveVertices = vertexWords (m .lists .curves);
     }
 
 -- a lent slice after `out` was written from its start: the cells past it stay

@@ -144,7 +144,7 @@ toldAfter s (unchanged n) = record { passes = 0; sizes = s; verdict = refused n 
 toldAfter s (ran r) = toldBy r
 
 -- the bench that the last whole pass wrote: the first for an even count, the second for an odd one
-unfoldable pub side : ℕ → Bench → Bench → Bench
+unfoldable pub side : {A : Type 0} → ℕ → A → A → A
 side passes first second = cond (eqb (passes % 2) 0) first second
 
 -- The words on a bench are a mesh: counts and marks are in order, and the rows stand for it. This fixes every word of every entry but the one

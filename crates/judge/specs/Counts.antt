@@ -1,4 +1,4 @@
--- Lent cells and equal benches, from the lengths of the slices alone; and the enum that says the kind.
+-- Lent cells and equal benches, from the lengths of the slices alone.
 -- Says nothing of the words in the slices.
 -- Assumes nothing.
 use mathlib.Core.Bool.{Bool, _&&_}
@@ -9,14 +9,7 @@ use Rattle.geom.specs.declared.answer.Sizes.{Sizes}
 use Rattle.geom.specs.Book as Book
 use Rattle.geom.specs.Memory.{Bench, areaCorners, volumeCorners}
 use Rattle.geom.specs.Refinement.{within}
-use Rattle.judge.specs.declared.counts.Kind.{Kind}
-use Rattle.judge.specs.declared.counts.Kind.the-variants.{Cubes, Simplices}
 use Rattle.judge.specs.declared.counts.Lengths.{Lengths}
-
--- the kind that the enum says
-abbrev pub kindOf : Kind → Book.Kind
-kindOf Cubes = Book.cubes
-kindOf Simplices = Book.simplices
 
 -- the lengths of a bench's slices
 abbrev pub lengthsOf : Bench → Lengths

@@ -1,16 +1,12 @@
 // Document 01, refusals 9 and 10: counts against lent cells and the limit.
 ghost use mathlib.Core.Path.{_≡_};
 ghost use Prim.Native.Nat.{min};
+ghost use Rattle.geom.specs.Kinds.{kindOf};
 ghost use Rattle.geom.specs.Memory.{areaCorners, volumeCorners};
 ghost use Rattle.geom.specs.Refinement as Refinement;
-ghost use Rattle.judge.specs.Counts.{kindOf, cellsOf, benchesOf};
+ghost use Rattle.judge.specs.Counts.{cellsOf, benchesOf};
 use geom::answer::Sizes;
-
-// The two kinds of mesh.
-pub enum Kind {
-    Cubes,
-    Simplices,
-}
+use geom::kind::Kind;
 
 // How long the slices of a bench are.
 pub struct Lengths {
@@ -44,7 +40,8 @@ pub fn volume_corners(kind: Kind) -> usize
     }
 }
 
-fn smaller(a: usize, b: usize) -> usize
+// The smaller of two numbers.
+pub fn smaller(a: usize, b: usize) -> usize
     ensures { λ r. ⌜ r ≡ min a b ⌝ }
 {
     if a < b {

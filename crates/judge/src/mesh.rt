@@ -5,11 +5,11 @@ ghost use Prim.Native.Nat.{ℕ};
 ghost use lib.Ieee.{Float};
 ghost use lib.ListN.{length};
 ghost use Rattle.geom.specs.Answers.{verdictOf};
+ghost use Rattle.geom.specs.Kinds.{kindOf};
 ghost use Rattle.geom.specs.Memory.{Bench, rowsOf};
 ghost use Rattle.geom.specs.Refusals.{Desk, marksHold, numbersHold, countsHold, refinementVerdict};
-ghost use Rattle.judge.specs.Counts.{kindOf, lengthsOf};
+ghost use Rattle.judge.specs.Counts.{lengthsOf};
 ghost use Rattle.judge.specs.Judged.{bench, Measured, Marked, Numbered};
-use crate::counts::Kind;
 use crate::counts::Lengths;
 use crate::counts::area_corners;
 use crate::counts::benches_hold;
@@ -28,6 +28,7 @@ use crate::words::positions_hold;
 use crate::words::steps_hold;
 use geom::answer::Ended;
 use geom::answer::Sizes;
+use geom::kind::Kind;
 
 // 9: no list counts more entries than its lent cells, and the curves' lengths add up to the curve vertices.
 pub fn counts_hold(kind: Kind, sizes: Sizes, first: Lengths, curves: &[u32]) -> bool

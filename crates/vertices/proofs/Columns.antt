@@ -1,7 +1,7 @@
--- What an element gives to its corners: the column rule, corner by corner.
+-- What an element gives to its corners: the mean and the column rule, corner by corner.
 -- Assumes nothing.
-use mathlib.Core.Path.{_≡_, sym, _∙_, ap, ap₂}
-use mathlib.Core.List.{List}
+use mathlib.Core.Path.{_≡_, refl, sym, _∙_, ap, ap₂}
+use mathlib.Core.List.{List, [], _∷_}
 use Prim.Native.Nat.{ℕ, _+_, _≤_, _<_}
 use native.Mathlib.Omega.{arith}
 use lib.Ieee.{Float}
@@ -10,25 +10,39 @@ use lib.Seq.{getD-take, getD-drop}
 use Rattle.numbers.specs.declared.vec4.Vec4.{Vec4}
 use Rattle.numbers.specs.Points4 as Points4
 use Rattle.geom.specs.Smoothing.{columnRule, cubeRule, CUBE-WEIGHTS}
+use Rattle.geom.specs.Memory.{firstOf}
 use Rattle.vertices.specs.declared.rules.Rule.{Rule}
-use Rattle.vertices.specs.Results.{resultOf}
+use Rattle.vertices.specs.Results.{cornersOf, resultOf}
 use Rattle.vertices.specs.Cells.{pointRow, points, Corners}
-use Rattle.geom.proofs.Rows.{getD-any}
+use Rattle.geom.proofs.Rows.{firstOf-cons, getD-any}
 use Rattle.vertices.proofs.Gathering.{length-part}
 
-module _ (positions : List Float) (words : List ℕ) (start n count k : ℕ) (cs : Corners words start n count) where
+-- a list by its places
+listed : {A : Type 0} (d : A) (l : List A) → firstOf (λ (k : ℕ). getD l k d) (length l) ≡ l
+unfolding firstOf
+listed d [] = refl
+listed {A} d (x ∷ l) = firstOf-cons (λ (k : ℕ). getD (x ∷ l) k d) (length l) ∙ ap (λ (r : List A). x ∷ r) (listed d l)
+
+module _ (positions : List Float) (words : List ℕ) (start n count : ℕ) (cs : Corners words start n count) where
   long : length (points positions words start n) ≡ n
   long = length-map (take n (drop start words)) (pointRow positions) ∙ length-part words start n (cs .room)
 
-  pub corner-at : k < n → (v : ℕ) (r : Vec4) → v ≡ getD words (start + k) 0 → r ≡ pointRow positions v → r ≡ getD (points positions words start n) k Points4.origin
-  corner-at h v r ev er =
+  pub corner-at : (k : ℕ) → k < n → (v : ℕ) (r : Vec4) → v ≡ getD words (start + k) 0 → r ≡ pointRow positions v → r ≡ getD (points positions words start n) k Points4.origin
+  corner-at k h v r ev er =
       er
       ∙ ap (pointRow positions) (ev ∙ sym (getD-take n (drop start words) k 0 h ∙ getD-drop start words k 0))
       ∙ sym (List·getD-map (pointRow positions) (take n (drop start words)) k 0)
       ∙ getD-any (points positions words start n) k (pointRow positions 0) Points4.origin (omega (arith, long))
 
-  pub corner-none : n ≤ k → (r : Vec4) → r ≡ Points4.origin → r ≡ getD (points positions words start n) k Points4.origin
-  corner-none h r e = e ∙ sym (List·getD-eq-default (points positions words start n) Points4.origin (omega (arith, long)))
+  pub corner-none : (k : ℕ) → n ≤ k → (r : Vec4) → r ≡ Points4.origin → r ≡ getD (points positions words start n) k Points4.origin
+  corner-none k h r e = e ∙ sym (List·getD-eq-default (points positions words start n) Points4.origin (omega (arith, long)))
+
+  pub mean-is : (ps : List Vec4) (r : Vec4) → ps ≡ firstOf (λ (k : ℕ). getD (points positions words start n) k Points4.origin) n → r ≡ Points4.mean ps
+      → r ≡ Points4.mean (points positions words start n)
+  mean-is ps r e er =
+      er
+      ∙ ap Points4.mean
+      (e ∙ ap (firstOf (λ (k : ℕ). getD (points positions words start n) k Points4.origin)) (sym long) ∙ listed Points4.origin (points positions words start n))
 
 pub columns-are : (ps : List Vec4) (first : ℕ) (weights a b c d r : Vec4) → a ≡ getD ps first Points4.origin → b ≡ getD ps (first + 1) Points4.origin
     → c ≡ getD ps (first + 2) Points4.origin → d ≡ getD ps (first + 3) Points4.origin → r ≡ Points4.columns a b c d weights
@@ -63,5 +77,10 @@ pub weighed : (ps : List Vec4) (weights known r : Vec4) → weights ≡ known �
 weighed ps weights known r e p = p ∙ ap (λ (w : Vec4). columnRule w ps) e
 
 -- the rule that the enum names
-pub by-rule : (rule named : Rule) (ps : List Vec4) (r : Vec4) → rule ≡ named → r ≡ resultOf named ps → r ≡ resultOf rule ps
-by-rule rule named ps r e p = rw e p
+module _ (rule named : Rule) (words : List ℕ) (start : ℕ) (e : rule ≡ named) where
+  pub corners-by : (count : ℕ) → Corners words start (cornersOf rule) count → Corners words start (cornersOf named) count
+  corners-by count c = rw e at c
+
+  pub result-by : (positions : List Float) (r : Vec4) → r ≡ resultOf named (points positions words start (cornersOf named))
+      → r ≡ resultOf rule (points positions words start (cornersOf rule))
+  result-by positions r p = rw e p

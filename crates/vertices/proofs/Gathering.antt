@@ -10,7 +10,7 @@ use native.Mathlib.Numerals.{add-one}
 use native.Mathlib.Omega.{arith}
 use lib.Dec.{eqb, ltb}
 use lib.Ieee.{Float}
-use lib.ListN.{length, getD, take, drop, set, length-set, length-take, length-drop, length-map}
+use lib.ListN.{length, getD, take, drop, set, length-set, length-take, length-drop}
 use lib.Seq.{sets, take-suc, getD-drop, getD-set-same, getD-set-other}
 use borrow.Author.Tests.{eqb-true, eqb-false, ltb-true, ltb-false}
 use Rattle.numbers.specs.Binary32 as Binary32
@@ -242,37 +242,6 @@ module _ (sums₀ : List Float) (tallies₀ words : List ℕ) (start corners : �
   pub spreading-done : (sums : List Float) (tallies : List ℕ) (k : ℕ) → Spreading sums₀ tallies₀ words start corners p rank sums tallies k → corners ≤ k
       → (u : ℕ) → gatheredRow sums tallies u ≡ toCorners rank p u (take corners (drop start words)) (gatheredRow sums₀ tallies₀ u)
   spreading-done sums tallies k s h u = let e : k ≡ corners = omega arith in rw e at (s .told u)
-
--- ---- the mean of an element's corners
-
-added-snoc : (s : Vec4) (ps : List Vec4) (p : Vec4) → Points4.added s (ps ++ p ∷ []) ≡ Points4.sum (Points4.added s ps) p
-unfolding Points4.added
-added-snoc s [] p = refl
-added-snoc s (q ∷ ps) p = added-snoc (Points4.sum s q) ps p
-
-pub adding-start : (positions : List Float) (words : List ℕ) (start : ℕ) (s : Vec4) → s ≡ Points4.origin → s ≡ Points4.added Points4.origin (points positions words start 0)
-unfolding Points4.added
-adding-start positions words start s e = e
-
-pub adding-on : (positions : List Float) (words : List ℕ) (start k v : ℕ) (s q t : Vec4) → start + k < length words
-    → s ≡ Points4.added Points4.origin (points positions words start k) → v ≡ getD words (start + k) 0 → q ≡ pointRow positions v → t ≡ Points4.sum s q
-    → t ≡ Points4.added Points4.origin (points positions words start (k + 1))
-adding-on positions words start k v s q t h es ev eq et =
-    et
-    ∙ ap₂ Points4.sum es (eq ∙ ap (pointRow positions) ev)
-    ∙ sym (added-snoc Points4.origin (points positions words start k) (pointRow positions (getD words (start + k) 0)))
-    ∙ ap (Points4.added Points4.origin)
-    (sym (ap (map (pointRow positions)) (part-more words start k h) ∙ map-append (pointRow positions) (take k (drop start words)) (getD words (start + k) 0 ∷ [])))
-
-pub adding-done : (positions : List Float) (words : List ℕ) (start n k : ℕ) (s r : Vec4) → start + n ≤ length words → k ≤ n → n ≤ k
-    → s ≡ Points4.added Points4.origin (points positions words start k) → r ≡ Points4.quotient s (Binary32.count n)
-    → r ≡ Points4.mean (points positions words start n)
-unfolding Points4.mean
-adding-done positions words start n k s r h a b es er =
-    let e : k ≡ n = omega arith in
-    let l : length (points positions words start n) ≡ n = length-map (take n (drop start words)) (pointRow positions) ∙ length-part words start n h in
-    er
-    ∙ ap₂ (λ (x : Vec4) (m : ℕ). Points4.quotient x (Binary32.count m)) (es ∙ ap (λ (j : ℕ). Points4.added Points4.origin (points positions words start j)) e) (sym l)
 
 -- ---- the elements of a list, one by one
 

@@ -8,7 +8,7 @@ ghost use lib.ListN.{length, take, drop};
 ghost use lib.Seq.{sets};
 ghost use Rattle.geom.specs.Smoothing as Smoothing;
 ghost use Rattle.vertices.specs.Cells.{verticesOf, elementsOf, gatheredRow, Lent, MOST, Corners, Elements};
-ghost use Rattle.vertices.specs.Results.{resultOf};
+ghost use Rattle.vertices.specs.Results.{cornersOf, resultOf};
 use crate::cells::point_at;
 use crate::cells::put_point;
 use crate::rules::Rule;
@@ -115,6 +115,7 @@ pub fn gather(
     count: usize,
     rank: u32,
 )
+    requires { ⌜ cornersOf rule ≡ corners ⌝ }
     requires { ⌜ 4 * count ≤ length (now positions) ⌝ }
     requires { ⌜ Elements (now words) corners elements count ⌝ }
     requires { ⌜ Lent (now sums) (now tallies) count ⌝ }
@@ -126,7 +127,7 @@ pub fn gather(
     let mut i: usize = 0;
     while i < elements {
         let start = (n + 1) * i;
-        let p = result(positions, words, start, corners, count, rule);
+        let p = result(positions, words, start, count, rule);
         to_corners(sums, tallies, words, start, n, count, p, rank);
         i += 1;
     }

@@ -5,41 +5,77 @@ ghost use lib.ListN.{length, getD, drop};
 ghost use Rattle.numbers.specs.Points4 as Points4;
 ghost use Rattle.geom.specs.Smoothing.{columnRule, cubeRule, LINE-WEIGHTS, SQUARE-WEIGHTS, CUBE-WEIGHTS};
 ghost use Rattle.vertices.specs.Cells.{points, Corners};
-ghost use Rattle.vertices.specs.Results.{resultOf};
+ghost use Rattle.vertices.specs.Results.{cornersOf, resultOf};
 use crate::cells::point_at;
 use geom::words::word;
 use numbers::vec4::Vec4;
 use numbers::vec4::columns;
+use numbers::vec4::mean2;
+use numbers::vec4::mean3;
+use numbers::vec4::mean4;
 
-// Simplices: the mean of the corners. Cubes: the column rule of a line, a square, a cube.
+// Simplices: the mean of the corners of a segment, a triangle, a tetrahedron. Cubes: the column rule of a line, a square, a cube.
 pub enum Rule {
-    Mean,
+    Segment,
+    Triangle,
+    Tetrahedron,
     Line,
     Square,
     Cube,
 }
 
-// The corner sum divided by the number of corners.
-pub fn corner_mean(
+// The position of corner k.
+fn corner(
     positions: &[f32],
     words: &[u32],
     start: usize,
-    corners: u8,
+    corners: usize,
     count: usize,
+    k: usize,
 ) -> Vec4
     requires { ⌜ 4 * count ≤ length (now positions) ⌝ }
     requires { ⌜ Corners (now words) start corners count ⌝ }
-    ensures { λ r. ⌜ r ≡ Points4.mean (points (now (positions .entry)) (now (words .entry)) start corners) ⌝ }
+    requires { ⌜ k < corners ⌝ }
+    ensures { λ r. ⌜ r ≡ getD (points (now (positions .entry)) (now (words .entry)) start corners) k Points4.origin ⌝ }
 {
-    let n = corners as usize;
-    let mut sum = Vec4::zero();
-    let mut k: usize = 0;
-    while k < n {
-        let v = word(words, start + k);
-        sum = sum.add(point_at(positions, v));
-        k += 1;
-    }
-    sum.over(corners as f32)
+    let v = word(words, start + k);
+    point_at(positions, v)
+}
+
+// The corner sum of a segment over 2. The number of corners is a constant in each mean, so that the division by it costs little.
+fn segment_mean(positions: &[f32], words: &[u32], start: usize, count: usize) -> Vec4
+    requires { ⌜ 4 * count ≤ length (now positions) ⌝ }
+    requires { ⌜ Corners (now words) start 2 count ⌝ }
+    ensures { λ r. ⌜ r ≡ Points4.mean (points (now (positions .entry)) (now (words .entry)) start 2) ⌝ }
+{
+    let a = corner(positions, words, start, 2, count, 0);
+    let b = corner(positions, words, start, 2, count, 1);
+    mean2(a, b)
+}
+
+// The corner sum of a triangle over 3.
+fn triangle_mean(positions: &[f32], words: &[u32], start: usize, count: usize) -> Vec4
+    requires { ⌜ 4 * count ≤ length (now positions) ⌝ }
+    requires { ⌜ Corners (now words) start 3 count ⌝ }
+    ensures { λ r. ⌜ r ≡ Points4.mean (points (now (positions .entry)) (now (words .entry)) start 3) ⌝ }
+{
+    let a = corner(positions, words, start, 3, count, 0);
+    let b = corner(positions, words, start, 3, count, 1);
+    let c = corner(positions, words, start, 3, count, 2);
+    mean3(a, b, c)
+}
+
+// The corner sum of a tetrahedron over 4.
+fn tetrahedron_mean(positions: &[f32], words: &[u32], start: usize, count: usize) -> Vec4
+    requires { ⌜ 4 * count ≤ length (now positions) ⌝ }
+    requires { ⌜ Corners (now words) start 4 count ⌝ }
+    ensures { λ r. ⌜ r ≡ Points4.mean (points (now (positions .entry)) (now (words .entry)) start 4) ⌝ }
+{
+    let a = corner(positions, words, start, 4, count, 0);
+    let b = corner(positions, words, start, 4, count, 1);
+    let c = corner(positions, words, start, 4, count, 2);
+    let d = corner(positions, words, start, 4, count, 3);
+    mean4(a, b, c, d)
 }
 
 // The position of corner k, and +0 where there is none.
@@ -56,8 +92,7 @@ fn corner_or_zero(
     ensures { λ r. ⌜ r ≡ getD (points (now (positions .entry)) (now (words .entry)) start corners) k Points4.origin ⌝ }
 {
     if k < corners {
-        let v = word(words, start + k);
-        return point_at(positions, v);
+        return corner(positions, words, start, corners, count, k);
     }
     Vec4::zero()
 }
@@ -131,23 +166,17 @@ fn cube_rule(positions: &[f32], words: &[u32], start: usize, corners: usize, cou
 }
 
 // What an element gives to each of its corners.
-pub fn result(
-    positions: &[f32],
-    words: &[u32],
-    start: usize,
-    corners: u8,
-    count: usize,
-    rule: Rule,
-) -> Vec4
+pub fn result(positions: &[f32], words: &[u32], start: usize, count: usize, rule: Rule) -> Vec4
     requires { ⌜ 4 * count ≤ length (now positions) ⌝ }
-    requires { ⌜ Corners (now words) start corners count ⌝ }
-    ensures { λ r. ⌜ r ≡ resultOf rule (points (now (positions .entry)) (now (words .entry)) start corners) ⌝ }
+    requires { ⌜ Corners (now words) start (cornersOf rule) count ⌝ }
+    ensures { λ r. ⌜ r ≡ resultOf rule (points (now (positions .entry)) (now (words .entry)) start (cornersOf rule)) ⌝ }
 {
-    let n = corners as usize;
     match rule {
-        Rule::Mean => corner_mean(positions, words, start, corners, count),
-        Rule::Line => column_rule(positions, words, start, n, count, 0, line_weights()),
-        Rule::Square => column_rule(positions, words, start, n, count, 0, square_weights()),
-        Rule::Cube => cube_rule(positions, words, start, n, count),
+        Rule::Segment => segment_mean(positions, words, start, count),
+        Rule::Triangle => triangle_mean(positions, words, start, count),
+        Rule::Tetrahedron => tetrahedron_mean(positions, words, start, count),
+        Rule::Line => column_rule(positions, words, start, 2, count, 0, line_weights()),
+        Rule::Square => column_rule(positions, words, start, 4, count, 0, square_weights()),
+        Rule::Cube => cube_rule(positions, words, start, 8, count),
     }
 }

@@ -28,3 +28,7 @@ pub mod memory;
 pub mod mesh;
 pub mod random;
 pub mod sheet;
+
+// Document 01's refinement and ledger from its sentences alone, to hold the others against.
+pub mod ledger;
+pub mod model;

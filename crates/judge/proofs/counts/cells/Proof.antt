@@ -1,7 +1,7 @@
 -- `judge::counts::cells` meets its contract. Assumes nothing.
 use native.Mathlib.Omega.{arith}
 use borrow.Author.Needs.{needs}
-use Rattle.judge.specs.Counts.{kindOf}
+use Rattle.geom.specs.Kinds.{kindOf}
 use Rattle.judge.proofs.Verdicts.{area-few, volume-few, cells-are}
 use Rattle.judge.proofs.counts.cells.Statement.{statement}
 use Rattle.judge.proofs.counts.cells.Tie as tie

@@ -7,7 +7,8 @@ use borrow.Author.Tests.{not-true, not-false, le-leb, lt-leb}
 use Rattle.geom.specs.Answers.{verdictOf}
 use Rattle.geom.specs.Memory.{Bench, Rows, rowsOf}
 use Rattle.geom.specs.Refusals.{every, goodParity, goodCurve, countsHold, marksHold, positionsHold, numbersHold}
-use Rattle.judge.specs.Counts.{kindOf, lengthsOf, benchesOf}
+use Rattle.geom.specs.Kinds.{kindOf}
+use Rattle.judge.specs.Counts.{lengthsOf, benchesOf}
 use Rattle.judge.specs.Judged.{bench}
 use Rattle.judge.proofs.Verdicts.{counts-positions, counts-curves, counts-marked, counts-numbered, told, due-counts, due-benches, due-marks, due-time, due-positions, due-numbers, due-curves, due-limits, due-none}
 use Rattle.judge.proofs.mesh.judge.Statement.{statement}

@@ -3,7 +3,7 @@ use borrow.Author.Needs.{needs}
 use mathlib.Core.Path.{refl, sym, _∙_}
 use borrow.Author.Tests.{not-true, not-false}
 use Rattle.geom.specs.Memory.{rowsOf}
-use Rattle.judge.specs.Counts.{kindOf}
+use Rattle.geom.specs.Kinds.{kindOf}
 use Rattle.judge.specs.Judged.{bench}
 use Rattle.judge.proofs.Verdicts.{parities-at, elements-at, marks-are}
 use Rattle.judge.proofs.mesh.marks_hold.Statement.{statement}

@@ -20,13 +20,13 @@ add-start : tie.Need-add-start Inv-loop μ-loop
 add-start c = search needs
 
 mul-start : tie.Need-mul-start Inv-loop μ-loop
-mul-start c = omega (arith, elements-corners _ _ _ _ _ (c .before .before .before .before .before .before .pre .1 .0) (c .loop-test .taken) .room)
+mul-start c = omega (arith, elements-corners _ _ _ _ _ (c .before .before .before .before .before .before .pre .1 .1 .0) (c .loop-test .taken) .room)
 
 result-requires : tie.Need-result-requires Inv-loop μ-loop
-result-requires c κs = (c .before .before .before .before .before .before .pre .0, elements-corners _ _ _ _ _ (c .before .before .before .before .before .before .pre .1 .0) (c .loop-test .taken))
+result-requires c κs = (c .before .before .before .before .before .before .pre .1 .0, rw (c .before .before .before .before .before .before .pre .0) (elements-corners _ _ _ _ _ (c .before .before .before .before .before .before .pre .1 .1 .0) (c .loop-test .taken)))
 
 to-corners-requires : tie.Need-to-corners-requires Inv-loop μ-loop
-to-corners-requires c κs = (collecting-lent _ _ _ _ _ _ _ _ _ (c .before .before .before .before .before .before .before .before .before .pre .1 .0) _ _ _ (c .before .before .before .before .loop .inv) (c .before .before .before .loop-test .taken) (c .before .before .before .before .before .before .before .before .before .pre .1 .1 .0), (elements-corners _ _ _ _ _ (c .before .before .before .before .before .before .before .before .before .pre .1 .0) (c .before .before .before .loop-test .taken), collecting-light _ _ _ _ _ _ _ _ _ (c .before .before .before .before .before .before .before .before .before .pre .1 .0) _ _ _ (c .before .before .before .before .loop .inv) (c .before .before .before .loop-test .taken) (c .before .before .before .before .before .before .before .before .before .pre .1 .1 .1)))
+to-corners-requires c κs = (collecting-lent _ _ _ _ _ _ _ _ _ (c .before .before .before .before .before .before .before .before .before .pre .1 .1 .0) _ _ _ (c .before .before .before .before .loop .inv) (c .before .before .before .loop-test .taken) (c .before .before .before .before .before .before .before .before .before .pre .1 .1 .1 .0), (elements-corners _ _ _ _ _ (c .before .before .before .before .before .before .before .before .before .pre .1 .1 .0) (c .before .before .before .loop-test .taken), collecting-light _ _ _ _ _ _ _ _ _ (c .before .before .before .before .before .before .before .before .before .pre .1 .1 .0) _ _ _ (c .before .before .before .before .loop .inv) (c .before .before .before .loop-test .taken) (c .before .before .before .before .before .before .before .before .before .pre .1 .1 .1 .1)))
 
 add-i : tie.Need-add-i Inv-loop μ-loop
 add-i c = search needs
@@ -35,7 +35,7 @@ loop-less : tie.Need-loop-less Inv-loop μ-loop
 loop-less c = search needs
 
 loop-again : tie.Need-loop-again Inv-loop μ-loop
-loop-again c = collecting-on _ _ _ _ _ _ _ _ _ (c .before .before .before .before .before .before .before .before .before .before .before .before .before .before .pre .1 .0) _ _ _ (c .before .before .before .before .before .before .before .before .before .loop .inv) (c .before .before .before .before .before .before .before .before .loop-test .taken) _ _ _ (c .before .before .before .before .to-corners .kept .0) (c .before .before .before .before .to-corners .kept .1 .0) (c .before .before .before .before .before .before .before .result .ensures) (c .before .before .before .before .to-corners .ensures)
+loop-again c = collecting-on _ _ _ _ _ _ _ _ _ (c .before .before .before .before .before .before .before .before .before .before .before .before .before .before .pre .1 .1 .0) _ _ _ (c .before .before .before .before .before .before .before .before .before .loop .inv) (c .before .before .before .before .before .before .before .before .loop-test .taken) _ _ _ (c .before .before .before .before .to-corners .kept .0) (c .before .before .before .before .to-corners .kept .1 .0) (rw (c .before .before .before .before .before .before .before .before .before .before .before .before .before .before .pre .0) at (c .before .before .before .before .before .before .before .result .ensures)) (c .before .before .before .before .to-corners .ensures)
 
 same-length : tie.Need-same-length Inv-loop μ-loop
 same-length c = c .before .loop .inv .long

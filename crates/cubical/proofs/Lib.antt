@@ -1,0 +1,2 @@
+-- One square in memory.
+pub mod Squared

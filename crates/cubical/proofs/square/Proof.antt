@@ -1,0 +1,152 @@
+-- `cubical::square` meets its contract: the tables are those of the definition, by computation. Assumes nothing.
+use mathlib.Core.Path.{refl, sym, _∙_, subst}
+use denote.Ref.{now}
+use Rattle.geom.specs.Book.{Made}
+use Rattle.geom.specs.Elements.{Element}
+use Rattle.geom.specs.Memory.{firstOf, elementRow}
+use Rattle.division.specs.Writing.{Extended}
+use Rattle.division.specs.Shapes.{below, edgeAt, edgesOf, orderOf, rowOf, tableOf, axisFrom, axesOf, shapeOf}
+use Rattle.cubical.proofs.Squared.{square-shut, square-crowded, square-flat, square-divided}
+use borrow.Author.Needs.{needs}
+use native.Mathlib.Omega.{arith}
+use Rattle.cubical.proofs.square.Statement.{statement}
+use Rattle.cubical.proofs.square.Tie as tie
+
+mul-from : tie.Need-mul-from
+mul-from c = search needs
+
+mul-a : tie.Need-mul-a
+mul-a c = search needs
+
+shared-slice-read-a : tie.Need-shared-slice-read-a
+shared-slice-read-a c = search needs
+
+add-d : tie.Need-add-d
+add-d c = search needs
+
+mul-d : tie.Need-mul-d
+mul-d c = search needs
+
+shared-slice-read-d : tie.Need-shared-slice-read-d
+shared-slice-read-d c = search needs
+
+returns : tie.Need-returns
+returns c =
+    let s = c .before .before .before .before .before .before .args in
+    let q = c .before .before .before .before .before .before .pre in
+    square-shut (s .base) (s .row) (s .made) (now (s .old)) (now (s .book)) (q .0) (c .if1 .taken) (q .1 .ready) (q .1 .within) (q .1 .lent)
+
+add-is-flat : tie.Need-add-is-flat
+add-is-flat c = search needs
+
+mul-is-flat : tie.Need-mul-is-flat
+mul-is-flat c = search needs
+
+shared-slice-read-is-flat : tie.Need-shared-slice-read-is-flat
+shared-slice-read-is-flat c = search needs
+
+add-is-flat-2 : tie.Need-add-is-flat-2
+add-is-flat-2 c = search needs
+
+mul-is-flat-2 : tie.Need-mul-is-flat-2
+mul-is-flat-2 c = search needs
+
+shared-slice-read-is-flat-2 : tie.Need-shared-slice-read-is-flat-2
+shared-slice-read-is-flat-2 c = search needs
+
+is-flat-requires : tie.Need-is-flat-requires
+is-flat-requires c κs = search needs
+
+cube-midpoint-requires : tie.Need-cube-midpoint-requires
+cube-midpoint-requires c κs = search needs
+
+enum-known-asked : tie.Need-enum-known-asked
+enum-known-asked c = search needs
+
+enum-told : tie.Need-enum-told
+enum-told c = search needs
+
+same-length : tie.Need-same-length
+same-length c = search needs
+
+returns-2 : tie.Need-returns-2
+returns-2 c =
+    let s = c .before .before .before .before .before .before .before .before .before .before .before .before .before .before .before .before .args in
+    let q = c .before .before .before .before .before .before .before .before .before .before .before .before .before .before .before .before .pre in
+    let f = sym (c .before .before .before .before .before .before .before .is-flat .ensures) ∙ c .before .before .before .before .before .before .if2 .taken in
+    square-crowded (s .base) (s .row) (s .made) (now (s .old)) (now (s .book)) (q .0) (c .before .before .before .before .before .before .before .before .before .before .if1 .left) (s .room) (s .cells) (s .rows) f (rw (c .enum-told .given .1) at (c .before .before .before .before .cube-midpoint .ensures))
+
+same-length-2 : tie.Need-same-length-2
+same-length-2 c = search needs
+
+returns-3 : tie.Need-returns-3
+returns-3 c =
+    let s = c .before .before .before .before .before .before .before .before .before .before .before .before .before .before .before .before .before .args in
+    let q = c .before .before .before .before .before .before .before .before .before .before .before .before .before .before .before .before .before .pre in
+    let f = sym (c .before .before .before .before .before .before .before .before .is-flat .ensures) ∙ c .before .before .before .before .before .before .before .if2 .taken in
+    square-flat (s .base) (s .row) (s .made) (now (s .old)) (now (s .book)) (q .0) (c .before .before .before .before .before .before .before .before .before .before .before .if1 .left) f (rw (c .before .asked .given .1) at (c .before .before .before .before .before .cube-midpoint .ensures)) (q .1 .within) (q .1 .lent)
+
+slice-aggregate-divide : tie.Need-slice-aggregate-divide
+slice-aggregate-divide c = search needs
+
+slice-aggregate-divide-2 : tie.Need-slice-aggregate-divide-2
+slice-aggregate-divide-2 c = search needs
+
+slice-aggregate-divide-3 : tie.Need-slice-aggregate-divide-3
+slice-aggregate-divide-3 c = search needs
+
+slice-aggregate-divide-4 : tie.Need-slice-aggregate-divide-4
+slice-aggregate-divide-4 c = search needs
+
+divide-requires : tie.Need-divide-requires
+unfolding below orderOf
+divide-requires c κs = (record { some = omega arith; few = omega arith; ends = refl; made = refl; all = refl; places = refl; along = refl }, c .before .before .before .before .before .before .before .before .before .before .before .before .before .before .before .before .pre)
+
+same-length-3 : tie.Need-same-length-3
+same-length-3 c = search needs
+
+same-length-4 : tie.Need-same-length-4
+same-length-4 c = search needs
+
+returns-4 : tie.Need-returns-4
+unfolding shapeOf edgesOf edgeAt orderOf tableOf axesOf axisFrom rowOf elementRow firstOf
+returns-4 c =
+    let s = c .before .before .before .before .before .before .before .before .before .before .before .before .before .before .before .before .before .before .before .before .before .args in
+    let q = c .before .before .before .before .before .before .before .before .before .before .before .before .before .before .before .before .before .before .before .before .before .pre in
+    let f = sym (c .before .before .before .before .before .before .before .before .before .before .before .before .is-flat .ensures) ∙ c .before .before .before .before .before .before .before .before .before .before .before .if2 .left in
+    subst (λ (m : Made Element). Extended 4 (s .base) (s .room) (s .cells) (s .rows) m (now (s .new)) (c .before .before .before .before .divide .last .1 .1 .1 .1 .1 .1 .1 .1 .0) (c .before .before .before .before .divide .last .1 .1 .1 .1 .1 .1 .1 .1 .1 .1 .1 .0) (c .before .before .before .before .divide .result))
+    (sym (square-divided (s .base) (s .row) (s .made) (now (s .old)) (now (s .book)) (q .0) (c .before .before .before .before .before .before .before .before .before .before .before .before .before .before .before .if1 .left) f)) (c .before .before .before .before .divide .ensures)
+
+pub square-spec : {M : Type 1} → statement M
+square-spec =
+    tie.close
+    (tie.spec
+    mul-from
+    mul-a
+    shared-slice-read-a
+    add-d
+    mul-d
+    shared-slice-read-d
+    returns
+    add-is-flat
+    mul-is-flat
+    shared-slice-read-is-flat
+    add-is-flat-2
+    mul-is-flat-2
+    shared-slice-read-is-flat-2
+    is-flat-requires
+    cube-midpoint-requires
+    enum-known-asked
+    enum-told
+    same-length
+    returns-2
+    same-length-2
+    returns-3
+    slice-aggregate-divide
+    slice-aggregate-divide-2
+    slice-aggregate-divide-3
+    slice-aggregate-divide-4
+    divide-requires
+    same-length-3
+    same-length-4
+    returns-4)

@@ -1,0 +1,5 @@
+// Document 01: the two kinds of mesh.
+pub enum Kind {
+    Cubes,
+    Simplices,
+}

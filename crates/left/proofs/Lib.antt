@@ -1,0 +1,2 @@
+-- the side that the pass count picks
+pub mod Picked

@@ -1,0 +1,41 @@
+// Document 01, 'Who can cause which refusal': lists sit on two benches, and the caller is handed the entries on the bench that the last
+// whole pass wrote. Each function hands back a part of one list's two slices, and never more than there is.
+ghost use mathlib.Core.Path.{_≡_};
+ghost use Prim.Native.Nat.{_%_};
+ghost use lib.Dec.{eqb};
+ghost use lib.ListN.{take};
+ghost use Rattle.geom.specs.Refusals.{side as sideOf};
+
+// Whether the last of so many passes wrote the first bench: for an even count; for an odd one the second.
+fn wrote_first(passes: u8) -> bool
+    ensures { λ r. ⌜ r ≡ eqb (passes % 2) 0 ⌝ }
+{
+    passes % 2 == 0
+}
+
+// The words of the entries of a list.
+pub fn left<'a>(first: &'a [u32], second: &'a [u32], passes: u8, words: usize) -> &'a [u32]
+    ensures { λ r. ⌜ now r ≡ take words (sideOf passes (now (first .entry)) (now (second .entry))) ⌝ }
+{
+    let side = if wrote_first(passes) { first } else { second };
+    if side.len() <= words {
+        return side;
+    }
+    &side[..words]
+}
+
+// The numbers of the vertices' positions.
+pub fn left_positions<'a>(
+    first: &'a [f32],
+    second: &'a [f32],
+    passes: u8,
+    numbers: usize,
+) -> &'a [f32]
+    ensures { λ r. ⌜ now r ≡ take numbers (sideOf passes (now (first .entry)) (now (second .entry))) ⌝ }
+{
+    let side = if wrote_first(passes) { first } else { second };
+    if side.len() <= numbers {
+        return side;
+    }
+    &side[..numbers]
+}

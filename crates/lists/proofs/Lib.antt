@@ -1,0 +1,2 @@
+-- one list after the other, with one book
+pub mod Passing

@@ -1,0 +1,53 @@
+-- `lists::divide_volumes` meets its contract: each kind has its rule. Assumes nothing.
+use Rattle.geom.specs.Cubes.{cube}
+use Rattle.geom.specs.Simplices.{tetrahedron}
+use borrow.Author.Needs.{needs}
+use Rattle.lists.proofs.divide_volumes.Statement.{statement}
+use Rattle.lists.proofs.divide_volumes.Tie as tie
+
+enum-told : tie.Need-enum-told
+enum-told c = search needs
+
+cubes-requires : tie.Need-cubes-requires
+cubes-requires c κs = rw (c .before .before .enum-told .given .1) at (c .before .before .before .before .before .before .before .pre)
+
+enum-told-2 : tie.Need-enum-told-2
+enum-told-2 c = search needs
+
+tetrahedra-requires : tie.Need-tetrahedra-requires
+tetrahedra-requires c κs = rw (c .before .before .enum-told2 .given .1) at (c .before .before .before .before .before .before .before .pre)
+
+same-length : tie.Need-same-length
+same-length c = search needs
+
+same-length-2 : tie.Need-same-length-2
+same-length-2 c = search needs
+
+returns : tie.Need-returns
+unfolding cube tetrahedron
+returns c = rw (c .before .before .before .before .before .before .before .enum-told .given .1) (c .before .before .before .before .cubes .ensures)
+
+same-length-3 : tie.Need-same-length-3
+same-length-3 c = search needs
+
+same-length-4 : tie.Need-same-length-4
+same-length-4 c = search needs
+
+returns-2 : tie.Need-returns-2
+unfolding cube tetrahedron
+returns-2 c = rw (c .before .before .before .before .before .before .before .enum-told2 .given .1) (c .before .before .before .before .tetrahedra .ensures)
+
+pub divide-volumes-spec : {M : Type 1} → statement M
+divide-volumes-spec =
+    tie.close
+    (tie.spec
+    enum-told
+    cubes-requires
+    enum-told-2
+    tetrahedra-requires
+    same-length
+    same-length-2
+    returns
+    same-length-3
+    same-length-4
+    returns-2)

@@ -1,0 +1,2 @@
+-- One pass over two benches.
+pub mod Benches

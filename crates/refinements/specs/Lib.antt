@@ -1,0 +1,2 @@
+-- What this program's contracts cite.
+pub mod Parts

@@ -1,0 +1,266 @@
+// A case is laid on a desk of the program's own, larger than what it lends, and the entry is called on as much of each slice as the case lends.
+ghost use Prim.Native.Nat.{_≤_};
+ghost use Rattle.refinements.specs.Parts.{Within};
+use crate::head::Apart;
+use crate::head::Case;
+use crate::head::area_words;
+use crate::head::given;
+use crate::head::volume_words;
+use crate::words::lay;
+use crate::words::lay_vertices;
+use geom::answer::Refined;
+use subdivision::subdivide;
+
+// How many words of each slice of a bench are lent.
+struct Words {
+    positions: usize,
+    marks: usize,
+    points: usize,
+    lines: usize,
+    areas: usize,
+    volumes: usize,
+    curves: usize,
+    steps: usize,
+}
+
+// A slice's words: what its cells take, or the length that the case gives it apart.
+fn lent_of(apart: Apart, slice: usize, usual: usize) -> usize {
+    if apart.slice == slice {
+        return apart.words;
+    }
+    usual
+}
+
+// The words of a bench whose first slice is number `slice`.
+fn widths(case: Case, apart: Apart, slice: usize) -> Words
+    requires { ⌜ slice ≤ 9 ⌝ }
+{
+    let lent = case.lent;
+    let kind = case.kind;
+    Words {
+        positions: lent_of(apart, slice, 4 * given(lent.vertices)),
+        marks: lent_of(apart, slice + 1, 3 * given(lent.vertices)),
+        points: lent_of(apart, slice + 2, given(lent.points)),
+        lines: lent_of(apart, slice + 3, 3 * given(lent.lines)),
+        areas: lent_of(apart, slice + 4, area_words(kind, given(lent.areas))),
+        volumes: lent_of(apart, slice + 5, volume_words(kind, given(lent.volumes))),
+        curves: lent_of(apart, slice + 6, 2 * given(lent.curves)),
+        steps: lent_of(apart, slice + 7, 2 * given(lent.curve_vertices)),
+    }
+}
+
+// As many of a list's words as there are.
+fn cut(words: usize, list: &[u32]) -> usize
+    ensures { λ r. ⌜ Within r (now (list .entry)) ⌝ }
+{
+    if list.len() < words {
+        return list.len();
+    }
+    words
+}
+
+fn cut_numbers(words: usize, list: &[f32]) -> usize
+    ensures { λ r. ⌜ Within r (now (list .entry)) ⌝ }
+{
+    if list.len() < words {
+        return list.len();
+    }
+    words
+}
+
+// Lays the words handed in on the first bench, and answers the place after them.
+pub fn lay_bench(
+    text: &[u8],
+    case: Case,
+    positions: &mut [f32],
+    marks: &mut [u32],
+    points: &mut [u32],
+    lines: &mut [u32],
+    areas: &mut [u32],
+    volumes: &mut [u32],
+    curves: &mut [u32],
+    steps: &mut [u32],
+) -> usize {
+    let sizes = case.sizes;
+    let kind = case.kind;
+    let mut at = lay_vertices(text, case.words, positions, marks, given(sizes.vertices));
+    at = lay(text, at, points, given(sizes.points));
+    at = lay(text, at, lines, 3 * given(sizes.lines));
+    at = lay(text, at, areas, area_words(kind, given(sizes.areas)));
+    at = lay(text, at, volumes, volume_words(kind, given(sizes.volumes)));
+    at = lay(text, at, curves, 2 * given(sizes.curves));
+    lay(text, at, steps, 2 * given(sizes.curve_vertices))
+}
+
+// The entry, on benches that are cut already: cuts the book and smoothing's cells.
+fn with_cells(
+    case: Case,
+    apart: Apart,
+    positions: &mut [f32],
+    marks: &mut [u32],
+    points: &mut [u32],
+    lines: &mut [u32],
+    areas: &mut [u32],
+    volumes: &mut [u32],
+    curves: &mut [u32],
+    steps: &mut [u32],
+    other_positions: &mut [f32],
+    other_marks: &mut [u32],
+    other_points: &mut [u32],
+    other_lines: &mut [u32],
+    other_areas: &mut [u32],
+    other_volumes: &mut [u32],
+    other_curves: &mut [u32],
+    other_steps: &mut [u32],
+    book: &mut [u32],
+    sums: &mut [f32],
+    tallies: &mut [u32],
+) -> Refined {
+    let lent = case.lent;
+    let sizes = case.sizes;
+    let b = cut(lent_of(apart, 17, 4 * given(case.book)), book);
+    let u = cut_numbers(lent_of(apart, 18, 4 * given(lent.vertices)), sums);
+    let t = cut(lent_of(apart, 19, 2 * given(lent.vertices)), tallies);
+    let kind = case.kind;
+    subdivide(
+        kind,
+        positions,
+        marks,
+        points,
+        lines,
+        areas,
+        volumes,
+        curves,
+        steps,
+        other_positions,
+        other_marks,
+        other_points,
+        other_lines,
+        other_areas,
+        other_volumes,
+        other_curves,
+        other_steps,
+        &mut book[..b],
+        &mut sums[..u],
+        &mut tallies[..t],
+        sizes,
+        case.depth,
+        case.smooth_time,
+    )
+}
+
+// The same, where only the first bench is cut already.
+fn with_second(
+    case: Case,
+    apart: Apart,
+    positions: &mut [f32],
+    marks: &mut [u32],
+    points: &mut [u32],
+    lines: &mut [u32],
+    areas: &mut [u32],
+    volumes: &mut [u32],
+    curves: &mut [u32],
+    steps: &mut [u32],
+    other_positions: &mut [f32],
+    other_marks: &mut [u32],
+    other_points: &mut [u32],
+    other_lines: &mut [u32],
+    other_areas: &mut [u32],
+    other_volumes: &mut [u32],
+    other_curves: &mut [u32],
+    other_steps: &mut [u32],
+    book: &mut [u32],
+    sums: &mut [f32],
+    tallies: &mut [u32],
+) -> Refined {
+    let lent = widths(case, apart, 9);
+    let p = cut_numbers(lent.positions, other_positions);
+    let m = cut(lent.marks, other_marks);
+    let o = cut(lent.points, other_points);
+    let l = cut(lent.lines, other_lines);
+    let a = cut(lent.areas, other_areas);
+    let v = cut(lent.volumes, other_volumes);
+    let c = cut(lent.curves, other_curves);
+    let s = cut(lent.steps, other_steps);
+    with_cells(
+        case,
+        apart,
+        positions,
+        marks,
+        points,
+        lines,
+        areas,
+        volumes,
+        curves,
+        steps,
+        &mut other_positions[..p],
+        &mut other_marks[..m],
+        &mut other_points[..o],
+        &mut other_lines[..l],
+        &mut other_areas[..a],
+        &mut other_volumes[..v],
+        &mut other_curves[..c],
+        &mut other_steps[..s],
+        book,
+        sums,
+        tallies,
+    )
+}
+
+// The entry, on as much of each slice as the case lends.
+pub fn refine(
+    case: Case,
+    apart: Apart,
+    positions: &mut [f32],
+    marks: &mut [u32],
+    points: &mut [u32],
+    lines: &mut [u32],
+    areas: &mut [u32],
+    volumes: &mut [u32],
+    curves: &mut [u32],
+    steps: &mut [u32],
+    other_positions: &mut [f32],
+    other_marks: &mut [u32],
+    other_points: &mut [u32],
+    other_lines: &mut [u32],
+    other_areas: &mut [u32],
+    other_volumes: &mut [u32],
+    other_curves: &mut [u32],
+    other_steps: &mut [u32],
+    book: &mut [u32],
+    sums: &mut [f32],
+    tallies: &mut [u32],
+) -> Refined {
+    let lent = widths(case, apart, 1);
+    let p = cut_numbers(lent.positions, positions);
+    let m = cut(lent.marks, marks);
+    let o = cut(lent.points, points);
+    let l = cut(lent.lines, lines);
+    let a = cut(lent.areas, areas);
+    let v = cut(lent.volumes, volumes);
+    let c = cut(lent.curves, curves);
+    let s = cut(lent.steps, steps);
+    with_second(
+        case,
+        apart,
+        &mut positions[..p],
+        &mut marks[..m],
+        &mut points[..o],
+        &mut lines[..l],
+        &mut areas[..a],
+        &mut volumes[..v],
+        &mut curves[..c],
+        &mut steps[..s],
+        other_positions,
+        other_marks,
+        other_points,
+        other_lines,
+        other_areas,
+        other_volumes,
+        other_curves,
+        other_steps,
+        book,
+        sums,
+        tallies,
+    )
+}

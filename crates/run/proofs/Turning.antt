@@ -1,0 +1,166 @@
+-- One turn of a run, from the bench that is read to the other: what holds before it, and what its answer means.
+-- Assumes nothing.
+use mathlib.Core.Path.{_≡_, refl, sym, _∙_, ap, ap₂, subst}
+use mathlib.Core.Bool.{Bool, true, false, cond}
+use mathlib.Core.List.{List, [], _∷_, map}
+use Prim.Native.Nat.{ℕ, suc, _+_, _-_, _/_, _≤_, _<_}
+use native.Mathlib.Omega.{arith}
+use native.Mathlib.Numerals.{add-one}
+use lib.Ieee.{Float}
+use lib.ListN.{length, getD, take, drop, length-take, length-drop, length-map}
+use Rattle.geom.specs.declared.answer.Sizes.{Sizes}
+use Rattle.geom.specs.declared.answer.Refined.{Refined}
+use Rattle.geom.specs.Answers.{Verdict, accepted, refused, told}
+use Rattle.geom.specs.Book.{Kind}
+use Rattle.geom.specs.Mesh.{curveVertices, sizesOf}
+use Rattle.geom.specs.Memory.{Bench, CurveRow, StepRow, areaCorners, volumeCorners, cells, firstOf, vertexRow, elementRow, curveRow, stepRow, curvesOf, elementOf, rowsOf, meshOf}
+use Rattle.geom.specs.Refusals.{curveLengths, countsHold, marksHold, StandsFor}
+use Rattle.geom.specs.Refinement.{State, Lent, Run, passOver, fits, runFrom, toldBy}
+use Rattle.geom.proofs.Rows.{length-firstOf}
+use Rattle.book.specs.Cells as Book
+use Rattle.pass.specs.Benches.{stateOf, lentOf, roomOf, capped, Held, Lends, Onward}
+use Rattle.pass.proofs.Next.{length-rows}
+use Rattle.pass.proofs.Ready.{held-sum}
+
+-- ---- the sizes of the mesh that rows stand for
+
+curves-count : (cs : List CurveRow) (rs : List StepRow) → curveLengths cs ≤ length rs → curveVertices (curvesOf cs rs) ≡ curveLengths cs
+unfolding curvesOf curveVertices curveLengths
+curves-count [] rs l = refl
+curves-count (c ∷ cs) rs l =
+    let a = length-map (take (c .count) rs) (λ (r : StepRow). r .vertex) in
+    let b = length-take (c .count) rs in
+    let d = length-drop (c .count) rs in
+    omega (arith, a, b, curves-count cs (drop (c .count) rs) (omega arith))
+
+elements-count : (k : ℕ) (words : List ℕ) (n : ℕ) → length (map elementOf (firstOf (elementRow k words) n)) ≡ n
+elements-count k words n = length-map (firstOf (elementRow k words) n) elementOf ∙ length-firstOf (elementRow k words) n
+
+sizes-stated : (kind : Kind) (s : Sizes) (b : Bench) → curveLengths (firstOf (curveRow (b .curves)) (s .curves)) ≡ s .«curve_vertices» → sizesOf (meshOf (rowsOf kind s b)) ≡ s
+unfolding sizesOf meshOf rowsOf
+sizes-stated kind s b e =
+    let cs = firstOf (curveRow (b .curves)) (s .curves) in
+    let rs = firstOf (stepRow (b .curveVertices)) (s .«curve_vertices») in
+    λ i.
+    record {
+      vertices = length-firstOf (vertexRow (b .positions) (b .marks)) (s .vertices) i;
+      points = length-firstOf (λ (j : ℕ). getD (b .points) j 0) (s .points) i;
+      lines = elements-count 2 (b .lines) (s .lines) i;
+      areas = elements-count (areaCorners kind) (b .areas) (s .areas) i;
+      volumes = elements-count (volumeCorners kind) (b .volumes) (s .volumes) i;
+      curves = (length-rows cs rs ∙ length-firstOf (curveRow (b .curves)) (s .curves)) i;
+      «curve_vertices» = (curves-count cs rs (omega (arith, length-firstOf (stepRow (b .curveVertices)) (s .«curve_vertices»))) ∙ e) i;
+    }
+
+-- ---- what is lent stays
+
+pub lends-turned :
+    {kind : Kind} {base room : ℕ} {c : Sizes} {a b : Bench} {book : List ℕ} {sums : List Float} {tallies : List ℕ}
+    → Lends kind base room c a b book sums tallies → Lends kind base room c b a book sums tallies
+lends-turned {base = base} {book = book} l =
+    let v = ap (λ (z : Sizes). z .vertices) (l .twin) in
+    record {
+      twin = sym (l .twin);
+      sum = omega (arith, l .sum, v);
+      tally = omega (arith, l .tally, v);
+      rooms = l .rooms ∙ ap (λ (z : Sizes). roomOf (record { cells = z; book = Book.cells book }) base) (l .twin);
+      caps = l .caps ∙ ap capped (l .twin);
+    }
+
+pub lends-kept :
+    {kind : Kind} {base room : ℕ} {c : Sizes} {a b b′ : Bench} {book book′ : List ℕ} {sums sums′ : List Float} {tallies tallies′ : List ℕ}
+    → Lends kind base room c a b book sums tallies → cells kind b′ ≡ cells kind b → length book′ ≡ length book → length sums′ ≡ length sums
+    → length tallies′ ≡ length tallies → Lends kind base room c a b′ book′ sums′ tallies′
+lends-kept {kind} {base} {a = a} l p q r t =
+    record {
+      twin = l .twin ∙ sym p;
+      sum = omega (arith, l .sum, r);
+      tally = omega (arith, l .tally, t);
+      rooms = l .rooms ∙ ap (λ (n : ℕ). roomOf (record { cells = cells kind a; book = n / 4 }) base) (sym q);
+      caps = l .caps;
+    }
+
+-- ---- a turn
+
+module _ (kind : Kind) (time : Bool) (base room : ℕ) (c : Sizes) (depth : ℕ) (lent : Lent) (run : Run) where
+  -- after n passes the bench `here` stands for the state, and what is left of the run goes on from there
+  pub record At (here there : Bench) (book : List ℕ) (sums : List Float) (tallies : List ℕ) (n : ℕ) (s : Sizes) (made : ℕ) : Type 0 where
+    pub within : n ≤ depth
+    pub held : Held kind base s here book made
+    pub lends : Lends kind base room c here there book sums tallies
+    pub lent-is : lentOf kind here book ≡ lent
+    pub on : runFrom kind time lent base (depth - n) n (stateOf kind s here book made) ≡ run
+
+  -- the answer after n passes
+  pub record Ends (r : Refined) (here : Bench) (n : ℕ) : Type 0 where
+    pub passes : run .passes ≡ n
+    pub answer : told r ≡ toldBy run
+    pub stands : StandsFor kind here (run .left .mesh)
+
+  module _ {here there : Bench} {book : List ℕ} {sums : List Float} {tallies : List ℕ} {n : ℕ} {s : Sizes} {made : ℕ} (g : At here there book sums tallies n s made) where
+    abbrev now : State
+    now = stateOf kind s here book made
+
+    abbrev next : State
+    next = passOver kind time base now
+
+    -- what the run leaves where it ends here
+    standing : StandsFor kind here (now .mesh)
+    unfolding StandsFor
+    standing =
+        let z = sizes-stated kind s here (held-sum (g .held)) in (
+          ap (λ (x : Sizes). countsHold kind x here) z ∙ g .held .counts,
+          ap (λ (x : Sizes). marksHold (rowsOf kind x here)) z ∙ g .held .marks,
+          ap (λ (x : Sizes). meshOf (rowsOf kind x here)) z,
+        )
+
+    ends : (v : Verdict) (r : Refined) → told r ≡ record { passes = n; sizes = s; verdict = v } → record { passes = n; left = now; verdict = v } ≡ run → Ends r here n
+    unfolding toldBy
+    ends v r e q =
+        record {
+          passes = sym (ap (λ (x : Run). x .passes) q);
+          answer =
+              e
+              ∙ ap (λ (z : Sizes). record { passes = n; sizes = z; verdict = v }) (sym (sizes-stated kind s here (held-sum (g .held))))
+              ∙ ap toldBy q;
+          stands = subst (λ (x : Run). StandsFor kind here (x .left .mesh)) q standing;
+        }
+
+    pub ends-done : depth ≤ n → (r : Refined) → told r ≡ record { passes = n; sizes = s; verdict = accepted } → Ends r here n
+    unfolding runFrom
+    ends-done k r e =
+        let z : depth - n ≡ 0 = omega arith in
+        ends accepted r e (sym (ap (λ (d : ℕ). runFrom kind time lent base d n now) z) ∙ g .on)
+
+    -- the next pass of the definition, by whether it fits
+    step : n < depth → (b : Bool) → fits (lentOf kind here book) next ≡ b
+        → cond b (runFrom kind time lent base (depth - suc n) (suc n) next) (record { passes = n; left = now; verdict = refused 10 }) ≡ run
+    unfolding runFrom
+    step k b e =
+        let z : depth - n ≡ suc (depth - suc n) = omega arith in
+        let f : fits lent next ≡ b = ap (λ (x : Lent). fits x next) (sym (g .lent-is)) ∙ e in
+        ap (λ (x : Bool). cond x (runFrom kind time lent base (depth - suc n) (suc n) next) (record { passes = n; left = now; verdict = refused 10 })) (sym f)
+        ∙ sym (ap (λ (d : ℕ). runFrom kind time lent base d n now) z)
+        ∙ g .on
+
+    pub ends-full : n < depth → fits (lentOf kind here book) next ≡ false → (r : Refined) → told r ≡ record { passes = n; sizes = s; verdict = refused 10 }
+        → Ends r here n
+    ends-full k f r e = ends (refused 10) r e (step k false f)
+
+    pub goes-on :
+        {there′ : Bench} {book′ : List ℕ} {sums′ : List Float} {tallies′ : List ℕ} {t : Sizes} {e : ℕ} → n < depth
+        → Onward kind base (lentOf kind here book) next there′ book′ t e → cells kind there′ ≡ cells kind there → length book′ ≡ length book
+        → length sums′ ≡ length sums → length tallies′ ≡ length tallies → At there′ here book′ sums′ tallies′ (n + 1) t e
+    goes-on {there′} {book′} {sums′} {tallies′} {t} {e} k o p q r u =
+        let l = lends-turned (lends-kept (g .lends) p q r u) in
+        record {
+          within = omega arith;
+          held = o .held;
+          lends = l;
+          lent-is =
+              ap₂ (λ (z : Sizes) (m : ℕ). record { cells = z; book = m / 4 }) (p ∙ sym (g .lends .twin)) q ∙ g .lent-is;
+          on =
+              ap (λ (m : ℕ). runFrom kind time lent base (depth - m) m (stateOf kind t there′ book′ e)) (add-one n)
+              ∙ ap (runFrom kind time lent base (depth - suc n) (suc n)) (o .state)
+              ∙ step k true (o .fit);
+        }

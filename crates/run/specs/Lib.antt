@@ -1,0 +1,2 @@
+-- What a run over two benches leaves.
+pub mod Runs

@@ -1,0 +1,136 @@
+-- The entry's door: what holds once a mesh is accepted, and what the answer means in each case.
+-- Assumes nothing.
+use mathlib.Core.Path.{_≡_, refl, sym, _∙_, ap, subst}
+use mathlib.Core.Bool.{Bool, true, false, not, _&&_}
+use Prim.Native.Nat.{ℕ, _-_, _/_, min}
+use native.Mathlib.Nat.{add-zero}
+use native.Mathlib.Omega.{arith}
+use lib.Dec.{eqb}
+use lib.ListN.{length}
+use Rattle.geom.specs.declared.answer.Sizes.{Sizes}
+use Rattle.geom.specs.declared.answer.Ended.{Ended}
+use Rattle.geom.specs.declared.answer.Ended.the-variants.{Finished, Refused}
+use Rattle.geom.specs.declared.answer.Refined.{Refined}
+use Rattle.geom.specs.Answers.{Verdict, accepted, refused, verdictOf, told}
+use Rattle.geom.specs.Book.{Kind}
+use Rattle.geom.specs.Memory.{cells, firstOf, rowsOf, meshOf}
+use Rattle.geom.specs.Refusals.{goodParity, countsHold, marksHold, handedIn, Desk, benchesEqual, benchesHold, lentBy, refinementVerdict, Subdivided, unchanged, ran, subdividedBy, subdivided, toldAfter, Leaves}
+use Rattle.geom.specs.Refinement.{LIMIT, LIMITS, within, run}
+use Rattle.geom.proofs.Lists.{same-number, and-true-left, and-true-right}
+use Rattle.geom.proofs.Accepted.{none-due, vertex-count, accepted-well}
+use Rattle.geom.proofs.Well.{Well}
+use Rattle.book.specs.Cells.{pairsOf}
+use Rattle.book.proofs.Links.{linked-none}
+use Rattle.judge.specs.Counts.{lengthsOf, cellsOf}
+use Rattle.judge.proofs.Verdicts.{Within, within-facts}
+use Rattle.pass.specs.Benches.{stateOf, lentOf, capped, Held, Lends}
+use Rattle.run.specs.Runs.{runOf, Ran}
+use Rattle.subdivision.specs.Entry.{Refines}
+use Rattle.subdivision.proofs.Keeping.{refines}
+
+-- ---- tests that passed
+
+holds : (b : Bool) → not b ≡ false → b ≡ true
+holds true e = refl
+holds false e = sym e
+
+-- counts within each other are equal
+twins : (s t : Sizes) → Within s t → Within t s → s ≡ t
+twins s t f g =
+    let v : s .vertices ≡ t .vertices = omega (arith, f .vertices, g .vertices) in
+    let p : s .points ≡ t .points = omega (arith, f .points, g .points) in
+    let l : s .lines ≡ t .lines = omega (arith, f .lines, g .lines) in
+    let a : s .areas ≡ t .areas = omega (arith, f .areas, g .areas) in
+    let o : s .volumes ≡ t .volumes = omega (arith, f .volumes, g .volumes) in
+    let c : s .curves ≡ t .curves = omega (arith, f .curves, g .curves) in
+    let k : s .«curve_vertices» ≡ t .«curve_vertices» = omega (arith, f .«curve_vertices», g .«curve_vertices») in
+    λ i. record { vertices = v i; points = p i; lines = l i; areas = a i; volumes = o i; curves = c i; «curve_vertices» = k i }
+
+-- ---- accepted
+
+module _ (kind : Kind) (s : Sizes) (d : Desk) (time : ℕ) (e : refinementVerdict kind s d time ≡ accepted) where
+  nine : (countsHold kind s (d .first) && benchesHold kind d) ≡ true
+  unfolding refinementVerdict handedIn
+  nine = holds _ (none-due (handedIn (benchesHold kind d) (goodParity time) kind s (d .first)) e .0)
+
+  ten : within s LIMITS ≡ true
+  unfolding refinementVerdict handedIn
+  ten = holds _ (none-due (handedIn (benchesHold kind d) (goodParity time) kind s (d .first)) e .1 .1 .1 .1 .1 .0)
+
+  five : (marksHold (rowsOf kind s (d .first)) && goodParity time) ≡ true
+  unfolding refinementVerdict handedIn
+  five = holds _ (none-due (handedIn (benchesHold kind d) (goodParity time) kind s (d .first)) e .1 .0)
+
+  pub held : Held kind (s .vertices) s (d .first) (d .book) 0
+  unfolding pairsOf firstOf
+  held =
+      let mesh = meshOf (rowsOf kind s (d .first)) in
+      record {
+        counts = and-true-left (countsHold kind s (d .first)) (benchesHold kind d) nine;
+        marks = and-true-left (marksHold (rowsOf kind s (d .first))) (goodParity time) five;
+        limits = ten;
+        count = sym (add-zero (s .vertices));
+        linked = linked-none (d .book);
+        good =
+            record {
+              rising = tt;
+              well = subst (λ (n : ℕ). Well kind n (mesh .lists)) (vertex-count kind s (d .first) ∙ sym (add-zero (s .vertices))) (accepted-well kind s d time e);
+            };
+      }
+
+  -- the bounds, from the lent cells that were worked out
+  pub lends :
+      {room : ℕ} {c lent : Sizes} → lent ≡ cellsOf kind (lengthsOf (d .first)) → c ≡ capped lent
+      → room ≡ min (length (d .book) / 4) (min (lent .vertices) LIMIT - s .vertices)
+      → Lends kind (s .vertices) room c (d .first) (d .second) (d .book) (d .sums) (d .tallies)
+  unfolding benchesEqual benchesHold cells cellsOf
+  lends l k r =
+      let a = cells kind (d .first) in
+      let b = cells kind (d .second) in
+      let m = min (length (d .sums) / 4) (length (d .tallies) / 2) in
+      let h = and-true-right (countsHold kind s (d .first)) (benchesHold kind d) nine in
+      let w = and-true-left (within a b && within b a) (eqb m (a .vertices)) h in
+      let n : m ≡ a .vertices = same-number m (a .vertices) (and-true-right (within a b && within b a) (eqb m (a .vertices)) h) in
+      record {
+        twin = twins a b (within-facts a b (and-true-left (within a b) (within b a) w)) (within-facts b a (and-true-right (within a b) (within b a) w));
+        sum = omega (arith, n);
+        tally = omega (arith, n);
+        rooms = r ∙ ap (λ (z : Sizes). min (length (d .book) / 4) (min (z .vertices) LIMIT - s .vertices)) l;
+        caps = k ∙ ap capped l;
+      }
+
+  run-is : (depth : ℕ) → subdivided kind s d depth time ≡ ran (runOf kind (eqb time 1) (lentOf kind (d .first) (d .book)) (s .vertices) depth (stateOf kind s (d .first) (d .book) 0))
+  unfolding subdivided run lentBy pairsOf firstOf
+  run-is depth =
+      let mesh = meshOf (rowsOf kind s (d .first)) in
+      ap (λ (v : Verdict). subdividedBy v (run kind (eqb time 1) (lentBy kind d) depth mesh)) e
+      ∙ ap (λ (n : ℕ). ran (runOf kind (eqb time 1) (lentOf kind (d .first) (d .book)) n depth (stateOf kind s (d .first) (d .book) 0))) (vertex-count kind s (d .first))
+
+  pub runs :
+      (depth : ℕ) (after : Desk) (r : Refined)
+      → Ran kind (runOf kind (eqb time 1) (lentOf kind (d .first) (d .book)) (s .vertices) depth (stateOf kind s (d .first) (d .book) 0)) r (after .first) (after .second)
+      → Refines kind s d after depth time (told r)
+  unfolding toldAfter Leaves
+  runs depth after r q =
+      refines kind s d after depth time (q .answer ∙ ap (toldAfter s) (sym (run-is depth)))
+      (subst (λ (x : Subdivided). Leaves kind x d after) (sym (run-is depth)) (q .stands))
+
+-- the judge found nothing
+pub accepted-by : {ended : Ended} {v : Verdict} → verdictOf ended ≡ v → ended ≡ Finished → v ≡ accepted
+unfolding verdictOf
+accepted-by j e = sym j ∙ ap verdictOf e
+
+-- ---- refused
+
+pub refuses :
+    (kind : Kind) (s : Sizes) (d : Desk) (time depth : ℕ) (r : Refined) {ended : Ended} {k : ℕ} → verdictOf ended ≡ refinementVerdict kind s d time
+    → ended ≡ Refused k → told r ≡ record { passes = 0; sizes = s; verdict = verdictOf ended } → Refines kind s d d depth time (told r)
+unfolding verdictOf subdivided toldAfter Leaves
+refuses kind s d time depth r {ended} {k} j e t =
+    let v : refused k ≡ refinementVerdict kind s d time = sym (ap verdictOf e) ∙ j in
+    let q : unchanged k ≡ subdivided kind s d depth time =
+    ap (λ (v : Verdict). subdividedBy v (run kind (eqb time 1) (lentBy kind d) depth (meshOf (rowsOf kind s (d .first))))) v
+    in
+    refines kind s d d depth time
+    (t ∙ ap (λ (v : Verdict). record { passes = 0; sizes = s; verdict = v }) (ap verdictOf e) ∙ ap (toldAfter s) q)
+    (subst (λ (x : Subdivided). Leaves kind x d d) q refl)

@@ -1,0 +1,2 @@
+-- The entry of the refinement of simplices.
+pub mod Entry

@@ -1,0 +1,58 @@
+//! What a caller lends to a refinement, and what it is told.
+use reference::memory::Bench;
+
+/// Two benches, the book and smoothing's cells, as raw words; a position's words are the bits of its floats.
+#[derive(Clone, Debug, PartialEq, Eq)]
+pub struct Desk {
+    pub first: Bench,
+    pub second: Bench,
+    pub book: Vec<u32>,
+    pub sums: Vec<u32>,
+    pub tallies: Vec<u32>,
+}
+
+/// The answer's words: the refusal's number, 0 when finished; the passes, then the sizes.
+#[derive(Copy, Clone, Debug, PartialEq, Eq)]
+pub struct Told {
+    pub number: u8,
+    pub answer: [usize; 8],
+}
+
+/// The names of a bench's eight slices.
+pub const SLICES: [&str; 8] = [
+    "positions",
+    "marks",
+    "points",
+    "lines",
+    "areas",
+    "volumes",
+    "curves",
+    "curve vertices",
+];
+
+/// A bench's slices, in that order.
+pub fn slices(bench: &Bench) -> [&Vec<u32>; 8] {
+    [
+        &bench.pos,
+        &bench.marks,
+        &bench.points,
+        &bench.lines,
+        &bench.areas,
+        &bench.volumes,
+        &bench.curves,
+        &bench.curve_verts,
+    ]
+}
+
+pub fn slices_mut(bench: &mut Bench) -> [&mut Vec<u32>; 8] {
+    [
+        &mut bench.pos,
+        &mut bench.marks,
+        &mut bench.points,
+        &mut bench.lines,
+        &mut bench.areas,
+        &mut bench.volumes,
+        &mut bench.curves,
+        &mut bench.curve_verts,
+    ]
+}

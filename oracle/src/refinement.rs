@@ -1,0 +1,412 @@
+//! The refinements against the original Rust in reference/, which gives every expected answer: the refusal, passes and sizes; every
+//! word of every list that is left, positions bit for bit; and, after a refusal at the door, every lent word. Only what document 01
+//! calls free goes uncompared, and the word beside a curve's last vertex, which belongs to no step.
+use crate::{
+    case::Case,
+    desk::{slices, Desk, Told, SLICES},
+    draw::{draw, Drawn},
+    exports,
+    shrink::smallest,
+};
+use reference::{
+    memory::{Answer, Bench, Ended},
+    mesh::{Kind, Mesh, Sizes},
+    random::Rng,
+};
+use std::collections::BTreeMap;
+
+/// What refines: the library, or in tests something that goes wrong on purpose.
+pub type Engine<'a> = &'a dyn Fn(Kind, &mut Desk, &Sizes, u8, u8) -> Told;
+
+/// How many cases were compared, how many of each class there were, and the smallest one that the two sides differ on.
+#[derive(Default)]
+pub struct Compared {
+    pub cases: u64,
+    pub classes: BTreeMap<String, u64>,
+    pub apart: Option<String>,
+}
+
+/// So many cases of a kind; stops at the first on which the two sides differ.
+pub fn compare(engine: Engine, kind: Kind, seed: u64, cases: u64) -> Compared {
+    let mut rng = Rng::new(seed);
+    let mut found = Compared::default();
+    while found.cases < cases && found.apart.is_none() {
+        let drawn = draw(&mut rng, kind);
+        match differs(&drawn.case, engine) {
+            Ok(answer) => found.count(&drawn, &answer),
+            Err(_) => found.apart = Some(described(drawn.case, engine)),
+        }
+        found.cases += 1;
+    }
+    found
+}
+
+/// The library against the reference.
+pub fn library(kind: Kind, seed: u64, cases: u64) -> Compared {
+    compare(&exports::subdivide, kind, seed, cases)
+}
+
+impl Compared {
+    fn count(&mut self, drawn: &Drawn, answer: &Answer) {
+        let number = number(answer.ended);
+        let mut class = |name: String| *self.classes.entry(name).or_default() += 1;
+        let passes = if answer.passes == 0 { "no" } else { "some" };
+        class(format!("answer {number} after {passes} passes"));
+        class(format!("depth {}", drawn.case.depth));
+        if drawn.damages.is_empty() {
+            class(format!("{}: {number}", drawn.lending));
+        }
+        for damage in &drawn.damages {
+            class((*damage).into());
+        }
+    }
+
+    pub fn print(&self) {
+        for (class, count) in &self.classes {
+            println!("{count:8} {class}");
+        }
+        println!("{} compared", self.cases);
+        if let Some(apart) = &self.apart {
+            println!("the two sides differ:\n{apart}");
+        }
+    }
+}
+
+fn described(case: Case, engine: Engine) -> String {
+    let least = smallest(case, &|c| differs(c, engine).is_err());
+    let why = differs(&least, engine).expect_err("the smallest one differs too");
+    format!("{least}{why}")
+}
+
+pub fn number(ended: Ended) -> u8 {
+    match ended {
+        Ended::Finished => 0,
+        Ended::Refused(number) => number,
+    }
+}
+
+/// Runs both sides on a case: the answer on which they agree, or in words where they first differ.
+pub fn differs(case: &Case, engine: Engine) -> Result<Answer, String> {
+    let before = case.desk();
+    let expected = case
+        .handed(&before)
+        .subdivide(case.depth, case.smooth_time.into());
+    let mut desk = before.clone();
+    let kind = case.mesh.kind;
+    let told = engine(kind, &mut desk, &case.counts, case.depth, case.smooth_time);
+    same_answer(&told, &expected)?;
+    match &expected.left {
+        None => same_desk(&desk, &before)?,
+        Some(mesh) if expected.passes % 2 == 0 => same_lists(&desk.first, mesh)?,
+        Some(mesh) => same_lists(&desk.second, mesh)?,
+    }
+    Ok(expected)
+}
+
+fn same_answer(told: &Told, expected: &Answer) -> Result<(), String> {
+    let [passes, sizes @ ..] = told.answer;
+    let ours = (told.number, passes, sizes);
+    let theirs = (
+        number(expected.ended),
+        expected.passes,
+        expected.sizes.list(),
+    );
+    if ours == theirs {
+        return Ok(());
+    }
+    Err(format!(
+        "refusal, passes and sizes are {ours:?}, and by the reference {theirs:?}"
+    ))
+}
+
+fn same_words(name: &str, ours: &[u32], theirs: &[u32]) -> Result<(), String> {
+    match ours.iter().zip(theirs).position(|(a, b)| a != b) {
+        None if ours.len() == theirs.len() => Ok(()),
+        None => Err(format!("{name}: the lengths differ")),
+        Some(at) => Err(format!(
+            "word {at} of {name} is {:08X}, and by the reference {:08X}",
+            ours[at], theirs[at]
+        )),
+    }
+}
+
+/// Every lent word is as it was.
+fn same_desk(after: &Desk, before: &Desk) -> Result<(), String> {
+    let benches = [
+        ("the first bench's", &after.first, &before.first),
+        ("the second bench's", &after.second, &before.second),
+    ];
+    for (bench, after, before) in benches {
+        for (slice, name) in SLICES.iter().enumerate() {
+            let name = format!("{bench} {name}");
+            same_words(&name, slices(after)[slice], slices(before)[slice])?;
+        }
+    }
+    same_words("the book", &after.book, &before.book)?;
+    same_words("the sums", &after.sums, &before.sums)?;
+    same_words("the tallies", &after.tallies, &before.tallies)
+}
+
+/// The words of every entry on a bench are those of a mesh.
+fn same_lists(bench: &Bench, mesh: &Mesh) -> Result<(), String> {
+    let mut expected = Bench::lent(mesh.kind, &mesh.sizes());
+    expected.put(mesh);
+    let mut last = 0;
+    for curve in &mesh.curves {
+        last += curve.verts.len();
+        // The word that belongs to no step.
+        expected.curve_verts[2 * last - 1] = bench.curve_verts[2 * last - 1];
+    }
+    for (slice, name) in SLICES.iter().enumerate() {
+        let theirs = slices(&expected)[slice];
+        same_words(name, &slices(bench)[slice][..theirs.len()], theirs)?;
+    }
+    Ok(())
+}
+
+#[cfg(test)]
+mod tests {
+    use super::*;
+    use crate::{
+        draw::{DAMAGES, LISTS},
+        KINDS,
+    };
+    use reference::mesh::{Curve, Element, Vertex, LIMIT};
+
+    const CASES: u64 = 20_000;
+
+    /// The classes that no run may miss: every answer, every depth to 4 and the greatest, every way of lending, every damage.
+    fn wanted() -> Vec<String> {
+        let mut classes: Vec<String> = DAMAGES.iter().map(|d| (*d).into()).collect();
+        classes.extend((5..=9).map(|n| format!("answer {n} after no passes")));
+        for answer in [
+            "0 after no passes",
+            "0 after some passes",
+            "10 after no passes",
+            "10 after some passes",
+        ] {
+            classes.push(format!("answer {answer}"));
+        }
+        classes.extend([0, 1, 2, 3, 4, 255].map(|d| format!("depth {d}")));
+        for lending in [
+            "more than is needed: 0",
+            "what is needed: 0",
+            "what fewer passes need: 10",
+            "a book of any length: 0",
+            "a book of any length: 10",
+            "fewer passes at a great depth: 0",
+            "fewer passes at a great depth: 10",
+        ] {
+            classes.push(lending.into());
+        }
+        for (list, name) in LISTS.iter().enumerate() {
+            // Points and curves never grow: one short of them is one short of what is handed in.
+            let number = if list == 1 || list == 5 { 9 } else { 10 };
+            classes.push(format!("one short of {name}: {number}"));
+        }
+        classes
+    }
+
+    fn agrees(kind: Kind) {
+        let found = library(kind, 1, CASES);
+        if let Some(apart) = &found.apart {
+            panic!("{apart}");
+        }
+        assert_eq!(found.cases, CASES);
+        let missed: Vec<String> = wanted()
+            .into_iter()
+            .filter(|class| found.classes.get(class).is_none_or(|n| *n < 5))
+            .collect();
+        assert_eq!(missed, Vec::<String>::new(), "met: {:#?}", found.classes);
+    }
+
+    #[test]
+    fn simplices_are_refined_as_by_the_reference() {
+        agrees(Kind::Simplices);
+    }
+
+    #[test]
+    fn cubes_are_refined_as_by_the_reference() {
+        agrees(Kind::Cubes);
+    }
+
+    /// A mesh at one place: every entry of every list is about vertex 0.
+    fn piled(kind: Kind, sizes: &Sizes) -> Mesh {
+        let [line, area, volume] = kind.corners();
+        let elements = |count: usize, corners: usize| {
+            let element = Element {
+                corners: vec![0; corners],
+                parity: 0,
+            };
+            vec![element; count]
+        };
+        let vertex = Vertex {
+            bits: [0; 4],
+            flags: 0,
+            tag: 0,
+            k: 0,
+        };
+        let curve = |verts: usize| Curve {
+            tag: 0,
+            verts: vec![0; verts],
+            steps: vec![0; verts],
+        };
+        // The first curve is as long as is left when every other has one vertex.
+        let lengths = (0..sizes.curves).map(|i| match i {
+            0 => sizes.curve_verts + 1 - sizes.curves,
+            _ => 1,
+        });
+        Mesh {
+            kind,
+            verts: vec![vertex; sizes.verts],
+            points: vec![0; sizes.points],
+            lines: elements(sizes.lines, line),
+            areas: elements(sizes.areas, area),
+            volumes: elements(sizes.volumes, volume),
+            curves: lengths.map(curve).collect(),
+        }
+    }
+
+    /// Of each list 1,048,576 entries are accepted, and one more is refused by 10: the limit is document 01's.
+    #[test]
+    fn lists_at_the_limit_and_beyond_are_handed_in() {
+        for kind in KINDS {
+            for list in 0..7 {
+                for (beyond, expected) in [(0, 0), (1, 10)] {
+                    let mut cells = [1, 0, 0, 0, 0, usize::from(list > 4), usize::from(list > 4)];
+                    cells[list] = LIMIT + beyond;
+                    // Every curve has a vertex.
+                    cells[6] = cells[6].max(cells[5]);
+                    let [verts, points, lines, areas, volumes, curves, curve_verts] = cells;
+                    let sizes = Sizes {
+                        verts,
+                        points,
+                        lines,
+                        areas,
+                        volumes,
+                        curves,
+                        curve_verts,
+                    };
+                    let case = Case::new(piled(kind, &sizes), &sizes, 0, 0, 0);
+                    let answer = differs(&case, &exports::subdivide).unwrap();
+                    assert_eq!(number(answer.ended), expected, "{kind:?}, list {list}");
+                }
+            }
+        }
+    }
+
+    /// A line or a curve of one place, lent more than the limit: the limit stops it, as document 01 counts.
+    #[test]
+    fn the_limit_stops_what_the_cells_would_hold() {
+        let one = Sizes {
+            verts: 1,
+            ..Sizes::default()
+        };
+        let lent = Sizes {
+            verts: LIMIT + 9,
+            ..Sizes::default()
+        };
+        let line = Sizes { lines: 1, ..one };
+        let curve = Sizes {
+            curves: 1,
+            curve_verts: 2,
+            ..one
+        };
+        let for_line = Sizes {
+            lines: LIMIT + 9,
+            ..lent
+        };
+        let for_curve = Sizes {
+            curves: 1,
+            curve_verts: LIMIT + 9,
+            ..lent
+        };
+        // After n passes: 2^n lines; 2^n + 1 curve vertices.
+        for (sizes, cells, passes) in [(line, for_line, 20), (curve, for_curve, 19)] {
+            let mesh = piled(Kind::Simplices, &sizes);
+            let case = Case::new(mesh, &cells, LIMIT + 9, 255, 0);
+            let answer = differs(&case, &exports::subdivide).unwrap();
+            assert_eq!((answer.passes, number(answer.ended)), (passes, 10));
+        }
+    }
+
+    /// The library, and afterwards something is spoiled on the bench that is left, or in the answer.
+    fn spoiled(
+        spoil: fn(&mut Bench, &mut Told),
+    ) -> impl Fn(Kind, &mut Desk, &Sizes, u8, u8) -> Told {
+        move |kind, desk, sizes, depth, smooth_time| {
+            let mut told = exports::subdivide(kind, desk, sizes, depth, smooth_time);
+            let bench = match told.answer[0] % 2 {
+                0 => &mut desk.first,
+                _ => &mut desk.second,
+            };
+            spoil(bench, &mut told);
+            told
+        }
+    }
+
+    fn flip(word: Option<&mut u32>) {
+        if let Some(word) = word {
+            *word ^= 1;
+        }
+    }
+
+    /// A wrong word in any slice, at its first entry or at its last, and a wrong answer, are found.
+    #[test]
+    fn wrong_refinements_are_noticed() {
+        let spoils: [fn(&mut Bench, &mut Told); 14] = [
+            |b, _| flip(b.pos.first_mut()),
+            |b, t| flip(b.pos.get_mut((4 * t.answer[1]).wrapping_sub(1))),
+            |b, t| flip(b.marks.get_mut((3 * t.answer[1]).wrapping_sub(1))),
+            |b, t| flip(b.marks.get_mut((3 * t.answer[1]).wrapping_sub(2))),
+            |b, t| flip(b.marks.get_mut((3 * t.answer[1]).wrapping_sub(3))),
+            |b, t| flip(b.points.get_mut(t.answer[2].wrapping_sub(1))),
+            |b, t| flip(b.lines.get_mut((3 * t.answer[3]).wrapping_sub(1))),
+            |b, _| flip(b.areas.first_mut()),
+            |b, _| flip(b.volumes.first_mut()),
+            |b, t| flip(b.curves.get_mut((2 * t.answer[6]).wrapping_sub(2))),
+            |b, _| flip(b.curve_verts.first_mut()),
+            |_, t| t.number ^= u8::from(t.number == 10),
+            |_, t| t.answer[0] += usize::from(t.number == 10),
+            |_, t| t.answer[7] += usize::from(t.number == 0),
+        ];
+        for (i, spoil) in spoils.into_iter().enumerate() {
+            let found = compare(&spoiled(spoil), Kind::Simplices, 1, 1_000);
+            assert!(found.apart.is_some(), "{i} goes unnoticed");
+        }
+    }
+
+    /// A refusal at the door that leaves its mark on a free cell is found.
+    #[test]
+    fn a_write_at_the_door_is_noticed() {
+        let writes = |kind: Kind, desk: &mut Desk, sizes: &Sizes, depth: u8, smooth_time: u8| {
+            let told = exports::subdivide(kind, desk, sizes, depth, smooth_time);
+            flip(desk.tallies.last_mut());
+            told
+        };
+        assert!(compare(&writes, Kind::Simplices, 1, 1_000).apart.is_some());
+    }
+
+    /// What shows a fault is made as small as it can be: a fault of volumes after a pass is shown by one volume and one pass.
+    #[test]
+    fn the_smallest_case_is_found() {
+        let fault = |kind: Kind, desk: &mut Desk, sizes: &Sizes, depth: u8, smooth_time: u8| {
+            let mut told = exports::subdivide(kind, desk, sizes, depth, smooth_time);
+            if told.number == 0 && told.answer[0] > 0 && sizes.volumes > 0 {
+                told.answer[0] += 1;
+            }
+            told
+        };
+        let mut rng = Rng::new(1);
+        let case = std::iter::repeat_with(|| draw(&mut rng, Kind::Simplices).case)
+            .find(|case| differs(case, &fault).is_err())
+            .unwrap();
+        let least = smallest(case, &|c| differs(c, &fault).is_err());
+        let sizes = least.mesh.sizes();
+        assert_eq!(
+            (least.depth, sizes.volumes, sizes.lines, sizes.areas),
+            (1, 1, 0, 0)
+        );
+        assert_eq!((sizes.points, sizes.curves), (0, 0));
+    }
+}
