@@ -1,5 +1,5 @@
 // Document 01, section 4: squares and cubes. Places count the corners first, then the midpoints in the order in which they are made.
-// The tables are the Rust's, row after row, and a comment shows each row; a row of a table of pieces ends with a 0: no piece is flipped.
+// The tables are the Rust's, row for row; a row of a table of pieces ends with a 0: no piece is flipped.
 ghost use mathlib.Core.Path.{_≡_};
 ghost use Prim.Native.Nat.{suc, _*_, _≤_};
 ghost use lib.ListN.{length};
@@ -23,176 +23,64 @@ const SQUARE_EDGES: [usize; 10] = [0, 3, 0, 1, 0, 2, 1, 3, 2, 3];
 const SQUARE_POINTS: [usize; 9] = [0, 1, 2, 3, 5, 6, 7, 8, 4];
 
 // Defines how new squares should be from linearly divided points.
+#[rattlefmt::skip]
 const SQUARE_ASSEMBLY_ORDER: [usize; 20] = [
-    0,
-    4,
-    5,
-    8,
-    0, // [0, 4, 5, 8]
-    4,
-    1,
-    8,
-    6,
-    0, // [4, 1, 8, 6]
-    5,
-    8,
-    2,
-    7,
-    0, // [5, 8, 2, 7]
-    8,
-    6,
-    7,
-    3,
-    0, // [8, 6, 7, 3]
+    0, 4, 5, 8, 0,
+    4, 1, 8, 6, 0,
+    5, 8, 2, 7, 0,
+    8, 6, 7, 3, 0,
 ];
 
 // The edges of a square along each axis, by the places of their ends: a flat square is [a,b,a,b] or [a,a,c,c].
-const SQUARE_AXES: [usize; 8] = [0, 2, 1, 3, 0, 1, 2, 3];
+#[rattlefmt::skip]
+const SQUARE_AXES: [usize; 8] = [
+    0, 2, 1, 3,
+    0, 1, 2, 3,
+];
 
 // Cube: midpoints by CUBE_EDGE_ORDER, then by CUBE_FACE_ORDER (first and last corner), then of corners 0 and 7.
+#[rattlefmt::skip]
 const CUBE_EDGES: [usize; 38] = [
-    0,
-    1, // [0, 1]
-    0,
-    2, // [0, 2]
-    0,
-    4, // [0, 4]
-    1,
-    3, // [1, 3]
-    1,
-    5, // [1, 5]
-    2,
-    3, // [2, 3]
-    2,
-    6, // [2, 6]
-    3,
-    7, // [3, 7]
-    4,
-    5, // [4, 5]
-    4,
-    6, // [4, 6]
-    5,
-    7, // [5, 7]
-    6,
-    7, // [6, 7]
-    0,
-    3, // [0, 1, 2, 3]
-    0,
-    5, // [0, 1, 4, 5]
-    0,
-    6, // [0, 2, 4, 6]
-    1,
-    7, // [1, 3, 5, 7]
-    2,
-    7, // [2, 3, 6, 7]
-    4,
-    7, // [4, 5, 6, 7]
-    0,
-    7, // the centre
+    0, 1,
+    0, 2,
+    0, 4,
+    1, 3,
+    1, 5,
+    2, 3,
+    2, 6,
+    3, 7,
+    4, 5,
+    4, 6,
+    5, 7,
+    6, 7,
+    0, 3, // face [0, 1, 2, 3]
+    0, 5, // face [0, 1, 4, 5]
+    0, 6, // face [0, 2, 4, 6]
+    1, 7, // face [1, 3, 5, 7]
+    2, 7, // face [2, 3, 6, 7]
+    4, 7, // face [4, 5, 6, 7]
+    0, 7, // the centre
 ];
 
 // Defines how new cubes should be from linearly divided points.
+#[rattlefmt::skip]
 const CUBE_ASSEMBLY_ORDER: [usize; 72] = [
-    0,
-    8,
-    9,
-    20,
-    10,
-    21,
-    22,
-    26,
-    0, // [0, 8, 9, 20, 10, 21, 22, 26]
-    8,
-    1,
-    20,
-    11,
-    21,
-    12,
-    26,
-    23,
-    0, // [8, 1, 20, 11, 21, 12, 26, 23]
-    9,
-    20,
-    2,
-    13,
-    22,
-    26,
-    14,
-    24,
-    0, // [9, 20, 2, 13, 22, 26, 14, 24]
-    20,
-    11,
-    13,
-    3,
-    26,
-    23,
-    24,
-    15,
-    0, // [20, 11, 13, 3, 26, 23, 24, 15]
-    10,
-    21,
-    22,
-    26,
-    4,
-    16,
-    17,
-    25,
-    0, // [10, 21, 22, 26, 4, 16, 17, 25]
-    21,
-    12,
-    26,
-    23,
-    16,
-    5,
-    25,
-    18,
-    0, // [21, 12, 26, 23, 16, 5, 25, 18]
-    22,
-    26,
-    14,
-    24,
-    17,
-    25,
-    6,
-    19,
-    0, // [22, 26, 14, 24, 17, 25, 6, 19]
-    26,
-    23,
-    24,
-    15,
-    25,
-    18,
-    19,
-    7,
-    0, // [26, 23, 24, 15, 25, 18, 19, 7]
+    0, 8, 9, 20, 10, 21, 22, 26, 0,
+    8, 1, 20, 11, 21, 12, 26, 23, 0,
+    9, 20, 2, 13, 22, 26, 14, 24, 0,
+    20, 11, 13, 3, 26, 23, 24, 15, 0,
+    10, 21, 22, 26, 4, 16, 17, 25, 0,
+    21, 12, 26, 23, 16, 5, 25, 18, 0,
+    22, 26, 14, 24, 17, 25, 6, 19, 0,
+    26, 23, 24, 15, 25, 18, 19, 7, 0,
 ];
 
 // The edges of a cube along each axis: a cube is flat if the four along one axis each have equal ends.
+#[rattlefmt::skip]
 const CUBE_AXES: [usize; 24] = [
-    0,
-    4,
-    1,
-    5,
-    2,
-    6,
-    3,
-    7, // [[0, 4], [1, 5], [2, 6], [3, 7]]
-    0,
-    2,
-    1,
-    3,
-    4,
-    6,
-    5,
-    7, // [[0, 2], [1, 3], [4, 6], [5, 7]]
-    0,
-    1,
-    2,
-    3,
-    4,
-    5,
-    6,
-    7, // [[0, 1], [2, 3], [4, 5], [6, 7]]
+    0, 4, 1, 5, 2, 6, 3, 7,
+    0, 2, 1, 3, 4, 6, 5, 7,
+    0, 1, 2, 3, 4, 5, 6, 7,
 ];
 
 // Whether a square has no area: [a,b,a,b] or [a,a,c,c].

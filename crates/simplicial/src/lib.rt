@@ -15,53 +15,28 @@ use geom::kind::Kind;
 const TRIANGLE_EDGES: [usize; 6] = [0, 1, 0, 2, 1, 2];
 
 // [a,p,q], [p,b,r], [q,r,c], then [p,q,r] flipped: the places of the corners, and 1 where the piece is flipped.
-const TRIANGLE_PIECES: [usize; 16] = [0, 3, 4, 0, 3, 1, 5, 0, 4, 5, 2, 0, 3, 4, 5, 1];
+#[rattlefmt::skip]
+const TRIANGLE_PIECES: [usize; 16] = [
+    0, 3, 4, 0,
+    3, 1, 5, 0,
+    4, 5, 2, 0,
+    3, 4, 5, 1,
+];
 
 // Tetrahedron [a,b,c,d], midpoints 0 to 5 = ab, ac, ad, bc, bd, cd: the ends of each.
 const TETRAHEDRON_EDGES: [usize; 12] = [0, 1, 0, 2, 0, 3, 1, 2, 1, 3, 2, 3];
 
 // [a,0,1,2], [0,b,3,4], [1,3,c,5], [2,4,5,d], [0,1,2,4], then flipped [0,1,3,4], [1,3,4,5], then [1,2,4,5]: the midpoints are places 4 to 9.
+#[rattlefmt::skip]
 const TETRAHEDRON_PIECES: [usize; 40] = [
-    0,
-    4,
-    5,
-    6,
-    0, // [a,0,1,2]
-    4,
-    1,
-    7,
-    8,
-    0, // [0,b,3,4]
-    5,
-    7,
-    2,
-    9,
-    0, // [1,3,c,5]
-    6,
-    8,
-    9,
-    3,
-    0, // [2,4,5,d]
-    4,
-    5,
-    6,
-    8,
-    0, // [0,1,2,4]
-    4,
-    5,
-    7,
-    8,
-    1, // [0,1,3,4], flipped
-    5,
-    7,
-    8,
-    9,
-    1, // [1,3,4,5], flipped
-    5,
-    6,
-    8,
-    9,
-    0, // [1,2,4,5]
+    0, 4, 5, 6, 0, // [a,0,1,2]
+    4, 1, 7, 8, 0, // [0,b,3,4]
+    5, 7, 2, 9, 0, // [1,3,c,5]
+    6, 8, 9, 3, 0, // [2,4,5,d]
+    4, 5, 6, 8, 0, // [0,1,2,4]
+    4, 5, 7, 8, 1, // [0,1,3,4], flipped
+    5, 7, 8, 9, 1, // [1,3,4,5], flipped
+    5, 6, 8, 9, 0, // [1,2,4,5]
 ];
 
 // Triangles in list order.
