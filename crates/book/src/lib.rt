@@ -104,7 +104,7 @@ fn enter(book: &mut [u32], made: usize, a: u32, b: u32)
 }
 
 // A pair that is in the book gives its vertex, else a vertex is made: the next number.
-pub fn midpoint(book: &mut [u32], made: usize, room: usize, base: usize, a: u32, b: u32) -> Asked
+fn midpoint(book: &mut [u32], made: usize, room: usize, base: usize, a: u32, b: u32) -> Asked
     requires { ⌜ Ready base room made (now book) ⌝ }
     ensures { λ r. ⌜ Answered simplices base room made (pair a b) (now (book .entry)) (now (book .exit)) r ⌝ }
 {
@@ -123,14 +123,7 @@ pub fn midpoint(book: &mut [u32], made: usize, room: usize, base: usize, a: u32,
 }
 
 // Cubes only: [a,a] gives a itself, with no entry.
-pub fn cube_midpoint(
-    book: &mut [u32],
-    made: usize,
-    room: usize,
-    base: usize,
-    a: u32,
-    b: u32,
-) -> Asked
+fn cube_midpoint(book: &mut [u32], made: usize, room: usize, base: usize, a: u32, b: u32) -> Asked
     requires { ⌜ Ready base room made (now book) ⌝ }
     ensures { λ r. ⌜ Answered cubes base room made (pair a b) (now (book .entry)) (now (book .exit)) r ⌝ }
 {

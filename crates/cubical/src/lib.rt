@@ -14,6 +14,7 @@ use book::Asked;
 use division::Written;
 use division::elements::divide;
 use division::elements::divide_all;
+use division::elements::middle;
 use geom::kind::Kind;
 
 // Square [a,b,c,d]: midpoints ad, ab, ac, bd, cd in this order.
@@ -113,7 +114,7 @@ fn square(
         return Written::Rows { rows, made };
     }
     if is_flat(a, old[from + 1], old[from + 2], d) {
-        let asked = book::cube_midpoint(book, made, room, base, a, d);
+        let asked = middle(Kind::Cubes, book, made, room, base, a, d);
         let Asked::Vertex {
             vertex: _,
             made: next,

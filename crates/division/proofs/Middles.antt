@@ -157,3 +157,21 @@ module _ {kind : Kind} {k base room : ℕ} {start edges : List ℕ} {before : Bo
         entries = m .holds ∙ ap (λ (x : Made ℕ). x .book) a;
         list = m .list ∙ ap (λ (x : Made ℕ). written start k (x .made)) a;
       }
+
+-- ── one pair alone ──
+
+-- the midpoint of [a,b] is that of the one edge between two points
+pub middle-placed :
+    (kind : Kind) (base room made a b : ℕ) {words after cells : List ℕ} {e : ℕ}
+    → Middled 2 base room (a ∷ b ∷ 0 ∷ []) (middlesOf kind 2 base (0 ∷ 1 ∷ []) (a ∷ b ∷ 0 ∷ []) (pairsOf words made)) after cells e
+    → Placed kind base room made (pair a b) words cells (getD after 2 0) e
+unfolding written middlesOf mids each place edgePairs edgesOf edgeAt firstOf
+middle-placed kind base room made a b m =
+    record { ready = m .ready; vertex = ap (λ (l : List ℕ). getD l 2 0) (m .list); book = m .entries }
+
+pub middle-crowded :
+    (kind : Kind) (base room made a b : ℕ) (words : List ℕ)
+    → room < length (middlesOf kind 2 base (0 ∷ 1 ∷ []) (a ∷ b ∷ 0 ∷ []) (pairsOf words made) .book)
+    → room < length (bookOr (pairsOf words made) (pair a b) (seek kind base (pairsOf words made) (pair a b)))
+unfolding middlesOf mids each place edgePairs edgesOf edgeAt firstOf
+middle-crowded kind base room made a b words l = l

@@ -15,6 +15,7 @@ ghost use Rattle.division.specs.Writing.{written};
 ghost use Rattle.division.specs.Threads.{threadTo, Threaded, curveAt, curvesIn, Spread, Strung, Curved};
 use crate::Written;
 use crate::elements::Grown;
+use crate::elements::middle;
 use crate::elements::parity_of;
 use crate::elements::word_of;
 use book::Asked;
@@ -45,8 +46,8 @@ fn between(
     ensures { λ r. ⌜ Answered (kindOf kind) base room made (stepEnds parity u w) (now (book .entry)) (now (book .exit)) r ⌝ }
 {
     match parity {
-        Parity::Even => book::midpoint_of(kind, book, made, room, base, u, w),
-        Parity::Odd => book::midpoint_of(kind, book, made, room, base, w, u),
+        Parity::Even => middle(kind, book, made, room, base, u, w),
+        Parity::Odd => middle(kind, book, made, room, base, w, u),
     }
 }
 

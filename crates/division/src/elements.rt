@@ -6,13 +6,13 @@ ghost use Prim.Native.Nat.{suc, _+_, _*_, _/_, _≤_, _<_};
 ghost use lib.ListN.{length, getD, take, drop};
 ghost use mathlib.Core.List.{map};
 ghost use Rattle.geom.specs.Parity.{times};
-ghost use Rattle.geom.specs.Book.{each};
+ghost use Rattle.geom.specs.Book.{pair, each};
 ghost use Rattle.geom.specs.Kinds.{kindOf};
 ghost use Rattle.geom.specs.Elements.{pointAt, pick, shut as shutAlong, flat as flatAlong, pieces as piecesOf};
 ghost use Rattle.geom.specs.Rules.{divide as divideBy};
 ghost use Rattle.geom.specs.Memory.{firstOf, elementRow, elementOf, parityOf, parityWord};
 ghost use Rattle.book.specs.Cells.{pairsOf};
-ghost use Rattle.book.specs.Answers.{Ready};
+ghost use Rattle.book.specs.Answers.{Ready, Answered};
 ghost use Rattle.division.specs.Writing.{written, Laying, Begun, Extended, Passed};
 ghost use Rattle.division.specs.Shapes.{below, orderOf, tableOf, axisFrom, axesOf, keptFrom, shapeOf, Shaped, Tabled};
 ghost use Rattle.division.specs.Middles.{middlesOf, Middle};
@@ -243,6 +243,30 @@ fn middles(
         i += 1;
     }
     Grown::Entries(entries)
+}
+
+// The midpoint of [a,b]. Every midpoint is made where those of an element's edges are, so that the book has one caller and costs no call.
+pub fn middle(
+    kind: Kind,
+    book: &mut [u32],
+    made: usize,
+    room: usize,
+    base: usize,
+    a: u32,
+    b: u32,
+) -> Asked
+    requires { ⌜ Ready base room made (now book) ⌝ }
+    ensures { λ r. ⌜ Answered (kindOf kind) base room made (pair a b) (now (book .entry)) (now (book .exit)) r ⌝ }
+{
+    let mut points = [a, b, 0];
+    let grown = middles(kind, &mut points, 2, &[0, 1], book, made, room, base);
+    let Grown::Entries(entries) = grown else {
+        return Asked::Full;
+    };
+    Asked::Vertex {
+        vertex: points[2],
+        made: entries,
+    }
 }
 
 // Puts the points in the order that the table speaks of. No words of order leave them as they were made.

@@ -11,6 +11,7 @@ ghost use Rattle.division.specs.Writing.{Begun, Extended, Passed};
 use crate::Written;
 use crate::elements::Filled;
 use crate::elements::assemble;
+use crate::elements::middle;
 use crate::elements::parity_of;
 use book::Asked;
 use geom::kind::Kind;
@@ -40,7 +41,7 @@ fn line(
     let a = old[from];
     let b = old[from + 1];
     let parity = parity_of(old[from + 2]);
-    let asked = book::midpoint_of(kind, book, made, room, base, a, b);
+    let asked = middle(kind, book, made, room, base, a, b);
     let Asked::Vertex {
         vertex,
         made: entries,

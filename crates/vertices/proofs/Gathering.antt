@@ -12,7 +12,7 @@ use lib.Dec.{eqb, ltb}
 use lib.Ieee.{Float}
 use lib.ListN.{length, getD, take, drop, set, length-set, length-take, length-drop}
 use lib.Seq.{sets, take-suc, getD-drop, getD-set-same, getD-set-other}
-use borrow.Author.Tests.{eqb-true, eqb-false, ltb-true, ltb-false}
+use borrow.Author.Tests.{eqb-true, eqb-false, ltb-true, ltb-false, lt-ltb, le-ltb}
 use Rattle.numbers.specs.Binary32 as Binary32
 use Rattle.numbers.specs.Points4 as Points4
 use Rattle.numbers.specs.declared.vec4.Vec4.{Vec4}
@@ -133,6 +133,11 @@ clearing-on sums₀ tallies₀ count sums tallies i sums′ tallies′ z c h ls 
         below i u l ne = apart i u ne (omega arith)
 
 -- ---- one update
+
+-- nothing is lower than the lowest rank
+pub lowest-rank : (t r : ℕ) → r ≤ 1 → (ltb 0 t && ltb t r) ≡ false
+lowest-rank zero r l = refl
+lowest-rank (suc n) r l = rw (lt-ltb 0 (suc n) (omega arith), le-ltb (suc n) r (omega arith)) refl
 
 module _ (sums : List Float) (tallies : List ℕ) (v rank : ℕ) (p : Vec4) where
   -- ignored: nothing changes

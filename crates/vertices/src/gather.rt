@@ -54,10 +54,14 @@ pub fn clear(sums: &mut [f32], tallies: &mut [u32], count: usize)
     }
 }
 
-// An update is ignored where a lower kind touched that vertex.
+// An update is ignored where a lower kind touched that vertex. No kind is lower than the lowest rank, so where there is one rank alone no touch
+// is asked.
 fn ignored(touch: u32, rank: u32) -> bool
     ensures { λ r. ⌜ r ≡ (ltb 0 touch && ltb touch rank) ⌝ }
 {
+    if rank <= 1 {
+        return false;
+    }
     if touch == 0 {
         return false;
     }

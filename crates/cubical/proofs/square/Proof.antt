@@ -57,8 +57,8 @@ shared-slice-read-is-flat-2 c = search needs
 is-flat-requires : tie.Need-is-flat-requires
 is-flat-requires c κs = search needs
 
-cube-midpoint-requires : tie.Need-cube-midpoint-requires
-cube-midpoint-requires c κs = search needs
+middle-requires : tie.Need-middle-requires
+middle-requires c κs = search needs
 
 enum-known-asked : tie.Need-enum-known-asked
 enum-known-asked c = search needs
@@ -74,7 +74,7 @@ returns-2 c =
     let s = c .before .before .before .before .before .before .before .before .before .before .before .before .before .before .before .before .args in
     let q = c .before .before .before .before .before .before .before .before .before .before .before .before .before .before .before .before .pre in
     let f = sym (c .before .before .before .before .before .before .before .is-flat .ensures) ∙ c .before .before .before .before .before .before .if2 .taken in
-    square-crowded (s .base) (s .row) (s .made) (now (s .old)) (now (s .book)) (q .0) (c .before .before .before .before .before .before .before .before .before .before .if1 .left) (s .room) (s .cells) (s .rows) f (rw (c .enum-told .given .1) at (c .before .before .before .before .cube-midpoint .ensures))
+    square-crowded (s .base) (s .row) (s .made) (now (s .old)) (now (s .book)) (q .0) (c .before .before .before .before .before .before .before .before .before .before .if1 .left) (s .room) (s .cells) (s .rows) f (rw (c .enum-told .given .1) at (c .before .before .before .before .middle .ensures))
 
 same-length-2 : tie.Need-same-length-2
 same-length-2 c = search needs
@@ -84,7 +84,7 @@ returns-3 c =
     let s = c .before .before .before .before .before .before .before .before .before .before .before .before .before .before .before .before .before .args in
     let q = c .before .before .before .before .before .before .before .before .before .before .before .before .before .before .before .before .before .pre in
     let f = sym (c .before .before .before .before .before .before .before .before .is-flat .ensures) ∙ c .before .before .before .before .before .before .before .if2 .taken in
-    square-flat (s .base) (s .row) (s .made) (now (s .old)) (now (s .book)) (q .0) (c .before .before .before .before .before .before .before .before .before .before .before .if1 .left) f (rw (c .before .asked .given .1) at (c .before .before .before .before .before .cube-midpoint .ensures)) (q .1 .within) (q .1 .lent)
+    square-flat (s .base) (s .row) (s .made) (now (s .old)) (now (s .book)) (q .0) (c .before .before .before .before .before .before .before .before .before .before .before .if1 .left) f (rw (c .before .asked .given .1) at (c .before .before .before .before .before .middle .ensures)) (q .1 .within) (q .1 .lent)
 
 slice-aggregate-divide : tie.Need-slice-aggregate-divide
 slice-aggregate-divide c = search needs
@@ -135,7 +135,7 @@ square-spec =
     mul-is-flat-2
     shared-slice-read-is-flat-2
     is-flat-requires
-    cube-midpoint-requires
+    middle-requires
     enum-known-asked
     enum-told
     same-length

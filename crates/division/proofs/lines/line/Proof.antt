@@ -40,8 +40,8 @@ shared-slice-read-parity-of c = search needs
 parity-of-requires : tie.Need-parity-of-requires
 parity-of-requires c κs = search needs
 
-midpoint-of-requires : tie.Need-midpoint-of-requires
-midpoint-of-requires c κs = search needs
+middle-requires : tie.Need-middle-requires
+middle-requires c κs = search needs
 
 enum-known-asked : tie.Need-enum-known-asked
 enum-known-asked c = search needs
@@ -57,7 +57,7 @@ returns c =
     let s = c .before .before .before .before .before .before .before .before .before .before .before .before .before .args in
     let q = c .before .before .before .before .before .before .before .before .before .before .before .before .before .pre in
     line-crowded (kindOf (s .kind)) (s .base) (s .row) (s .made) (now (s .old)) (now (s .book)) (q .0) (s .room) (s .cells) (s .rows)
-    (rw (c .enum-told .given .1) at (c .before .before .before .before .midpoint-of .ensures))
+    (rw (c .enum-told .given .1) at (c .before .before .before .before .middle .ensures))
 
 same-length-2 : tie.Need-same-length-2
 same-length-2 c = search needs
@@ -67,7 +67,7 @@ returns-2 c =
     let s = c .before .before .before .before .before .before .before .before .before .before .before .before .before .before .before .args in
     let q = c .before .before .before .before .before .before .before .before .before .before .before .before .before .before .before .pre in
     line-known (kindOf (s .kind)) (s .base) (s .row) (s .made) (now (s .old)) (now (s .book)) (q .0)
-    (rw (c .before .before .asked .given .1) at (c .before .before .before .before .before .before .midpoint-of .ensures)) (c .if1 .taken) (q .1 .within) (q .1 .lent)
+    (rw (c .before .before .asked .given .1) at (c .before .before .before .before .before .before .middle .ensures)) (c .if1 .taken) (q .1 .within) (q .1 .lent)
 
 slice-aggregate-assemble : tie.Need-slice-aggregate-assemble
 slice-aggregate-assemble c = search needs
@@ -102,7 +102,7 @@ returns-3 c =
     let s = c .before .before .before .before .before .before .before .before .before .before .before .before .before .before .before .before .before .before .before .before .before .before .before .before .args in
     let q = c .before .before .before .before .before .before .before .before .before .before .before .before .before .before .before .before .before .before .before .before .before .before .before .before .pre in
     line-full (kindOf (s .kind)) (s .base) (s .row) (s .made) (now (s .old)) (now (s .book)) (q .0)
-    (rw (c .before .before .before .before .before .before .before .before .before .before .before .asked .given .1) at (c .before .before .before .before .before .before .before .before .before .before .before .before .before .before .before .midpoint-of .ensures)) (s .cells) (s .rows)
+    (rw (c .before .before .before .before .before .before .before .before .before .before .before .asked .given .1) at (c .before .before .before .before .before .before .before .before .before .before .before .before .before .before .before .middle .ensures)) (s .cells) (s .rows)
     (c .before .before .before .before .before .before .before .before .before .if1 .left) (c .before .before .before .before .before .before .before .before .before .before .before .before .before .before .before .before .before .parity-of .ensures)
     (rw (c .enum-told2 .given .1) at (c .before .before .before .before .assemble .ensures))
 
@@ -118,7 +118,7 @@ returns-4 c =
     let s = c .before .before .before .before .before .before .before .before .before .before .before .before .before .before .before .before .before .before .before .before .before .before .before .before .before .args in
     let q = c .before .before .before .before .before .before .before .before .before .before .before .before .before .before .before .before .before .before .before .before .before .before .before .before .before .pre in
     line-extends (kindOf (s .kind)) (s .base) (s .row) (s .made) (now (s .old)) (now (s .book)) (q .0)
-    (rw (c .before .before .before .before .before .before .before .before .before .before .before .before .asked .given .1) at (c .before .before .before .before .before .before .before .before .before .before .before .before .before .before .before .before .midpoint-of .ensures))
+    (rw (c .before .before .before .before .before .before .before .before .before .before .before .before .asked .given .1) at (c .before .before .before .before .before .before .before .before .before .before .before .before .before .before .before .before .middle .ensures))
     (c .before .before .before .before .before .before .before .before .before .before .if1 .left) (c .before .before .before .before .before .before .before .before .before .before .before .before .before .before .before .before .before .before .parity-of .ensures)
     (rw (c .before .filled .given .1) at (c .before .before .before .before .before .assemble .ensures))
 
@@ -136,7 +136,7 @@ line-spec =
     mul-parity-of
     shared-slice-read-parity-of
     parity-of-requires
-    midpoint-of-requires
+    middle-requires
     enum-known-asked
     enum-told
     same-length
