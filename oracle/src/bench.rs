@@ -133,6 +133,14 @@ pub fn tables(kind: Kind) {
     }
     println!();
     heading();
+    // Deeper: from 3 passes on.
+    for (n, depth) in [(1, 3), (2, 3), (4, 3), (1, 4), (2, 4), (1, 5)] {
+        let ready = Ready::new(String::new(), block(kind, n), depth);
+        let name = format!("block of {n}, {} volumes left", ready.left.volumes);
+        Ready { name, ..ready }.print();
+    }
+    println!();
+    heading();
     for ready in shapes(kind) {
         ready.print();
     }

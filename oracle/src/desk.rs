@@ -1,4 +1,5 @@
 //! What a caller lends to a refinement, and what it is told.
+use crate::draw::LISTS;
 use reference::memory::Bench;
 
 /// Two benches, the book and smoothing's cells, as raw words; a position's words are the bits of its floats.
@@ -18,17 +19,20 @@ pub struct Told {
     pub answer: [usize; 8],
 }
 
-/// The names of a bench's eight slices.
-pub const SLICES: [&str; 8] = [
-    "positions",
-    "marks",
-    "points",
-    "lines",
-    "areas",
-    "volumes",
-    "curves",
-    "curve vertices",
-];
+/// The names of a bench's eight slices: the vertices have two, every other list has one.
+pub const SLICES: [&str; 8] = {
+    let [_, points, lines, areas, volumes, curves, steps, _] = LISTS;
+    [
+        "positions",
+        "marks",
+        points,
+        lines,
+        areas,
+        volumes,
+        curves,
+        steps,
+    ]
+};
 
 /// A bench's slices, in that order.
 pub fn slices(bench: &Bench) -> [&Vec<u32>; 8] {

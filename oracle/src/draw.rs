@@ -204,6 +204,13 @@ pub const DAMAGES: [&str; 17] = [
     "a count below the entries",
 ];
 
+/// Those of smooth_time and of a mesh's own words, but for what is no number.
+pub const WORDS: [&str; 8] = {
+    let [_, _, _, _, _, time, flags, parity, step, beyond, infinite, _, number, empty, ..] =
+        DAMAGES;
+    [time, flags, parity, step, beyond, infinite, number, empty]
+};
+
 /// Does one of them to a case that has a place for it.
 fn damage(rng: &mut Rng, case: &mut Case) -> &'static str {
     loop {

@@ -9,7 +9,7 @@
 use crate::{
     case::{row_words, words_for, Case},
     desk::slices,
-    draw::{draw, Drawn},
+    draw::{draw, Drawn, WORDS},
     refinement::number,
 };
 use reference::{
@@ -32,18 +32,6 @@ const REFUSED_WORDS: usize = 160;
 const FINISHED_WORDS: usize = 340;
 /// The most words that are lent to a list, so that a program with cells of a fixed number can replay it.
 const LENT_WORDS: usize = 8_192;
-
-/// What a sample's case may have wrong: words of the mesh and smooth_time. Nothing here is no number.
-const WRONG: [&str; 8] = [
-    "smooth_time above 1",
-    "flags above 15",
-    "a parity above 1",
-    "a step's parity above 1",
-    "a coordinate beyond 1,024",
-    "an infinite coordinate",
-    "a number beyond the count",
-    "a curve without vertices",
-];
 
 pub fn sample(kind: Kind) -> String {
     let name = match kind {
@@ -68,7 +56,7 @@ pub fn sample(kind: Kind) -> String {
 /// A case in the sample's text, with its class, if it is plain and small enough and its class is not full.
 fn small(drawn: &Drawn, taken: &mut BTreeMap<String, u32>) -> Option<(String, String)> {
     let mut case = drawn.case.clone();
-    if !drawn.damages.iter().all(|d| WRONG.contains(d)) || !is_plain(&case) {
+    if !drawn.damages.iter().all(|d| WORDS.contains(d)) || !is_plain(&case) {
         return None;
     }
     for last in case

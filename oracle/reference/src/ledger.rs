@@ -24,16 +24,23 @@ fn add(ledger: &mut Ledger, face: Vec<u32>, number: i64) {
     }
 }
 
+/// "nothing is added to a flat square".
+fn add_square(ledger: &mut Ledger, square: [u32; 4], number: i64) {
+    if !is_flat_square(&square) {
+        add(ledger, square.to_vec(), number);
+    }
+}
+
 /// "the signed whole number that the mesh's volumes add up to from 0".
 #[must_use]
 pub fn ledger(mesh: &Mesh) -> Ledger {
-    const FACES: [[usize; 4]; 6] = [
-        [0, 1, 2, 3],
-        [0, 1, 4, 5],
-        [0, 2, 4, 6],
-        [1, 3, 5, 7],
-        [2, 3, 6, 7],
-        [4, 5, 6, 7],
+    const FACES: [(i64, [usize; 4]); 6] = [
+        (-1, [0, 1, 2, 3]),
+        (1, [0, 1, 4, 5]),
+        (-1, [0, 2, 4, 6]),
+        (1, [1, 3, 5, 7]),
+        (-1, [2, 3, 6, 7]),
+        (1, [4, 5, 6, 7]),
     ];
     let mut out = Ledger::new();
     for e in &mesh.volumes {
@@ -47,11 +54,8 @@ pub fn ledger(mesh: &Mesh) -> Ledger {
                 }
             }
             Kind::Cubes => {
-                for (i, face) in FACES.iter().enumerate() {
-                    let face: Vec<u32> = face.iter().map(|c| e.corners[*c]).collect();
-                    if !is_flat_square(&face) {
-                        add(&mut out, face, if i % 2 == 0 { -sign } else { sign });
-                    }
+                for (side, face) in FACES {
+                    add_square(&mut out, face.map(|c| e.corners[c]), side * sign);
                 }
             }
         }
@@ -75,16 +79,10 @@ pub fn refined(ledger: &Ledger, model: &Model) -> Ledger {
             }
             [a, b, c, d] => {
                 let (ab, ac, ad, bd, cd) = (mid(a, b), mid(a, c), mid(a, d), mid(b, d), mid(c, d));
-                for piece in [
-                    [a, ab, ac, ad],
-                    [ab, b, ad, bd],
-                    [ac, ad, c, cd],
-                    [ad, bd, cd, d],
-                ] {
-                    if !is_flat_square(&piece) {
-                        add(&mut out, piece.to_vec(), *number);
-                    }
-                }
+                add_square(&mut out, [a, ab, ac, ad], *number);
+                add_square(&mut out, [ab, b, ad, bd], *number);
+                add_square(&mut out, [ac, ad, c, cd], *number);
+                add_square(&mut out, [ad, bd, cd, d], *number);
             }
             _ => unreachable!(),
         }
