@@ -1,14 +1,16 @@
-//! How long a refinement takes: the library on lent words, and the original Rust's own `subdivide` on its geometry, on the same mesh in the
-//! same run. Only the call is timed: words are lent and geometries are built before it, and let go after it.
+//! How long a call takes: the library on lent words, and the original Rust's own `subdivide`, triangulation or normals on its geometry, on
+//! the same mesh in the same run. Only the call is timed: words are lent and geometries are built before it, and let go after it.
 use crate::{
-    block::block,
+    block::{block, sheet},
     case::Case,
+    derived::{Call, Entry},
     desk::Desk,
     draw::{needs, sizes},
     exports,
 };
 use reference::{
-    geom::{CubeData, SimplexData},
+    geom::{CubeData, SimplexData, SimplicialGeometry},
+    memory::Bench,
     mesh::{Curve, Kind, Mesh, Sizes, LIMIT},
 };
 use std::{
@@ -44,10 +46,10 @@ impl Ready {
 
     /// Lent as much as the limits allow.
     fn with_all(self) -> Ready {
-        let Case { mesh, depth, .. } = self.case;
+        let Case { given, depth, .. } = self.case;
         Ready {
             name: format!("{}, every list lent 1,048,576 cells", self.name),
-            case: Case::new(mesh, &Sizes::all(LIMIT), LIMIT, depth, 1),
+            case: Case::new(given.mesh, &Sizes::all(LIMIT), LIMIT, depth, 1),
             left: self.left,
         }
     }
@@ -60,16 +62,22 @@ impl Ready {
     /// On a desk that may have been lent before, with whatever that run left in it.
     fn library(&self, desk: &mut Desk) -> Duration {
         let case = &self.case;
-        desk.first.put(&case.mesh);
+        desk.first.put(&case.given.mesh);
         let began = Instant::now();
-        let told = exports::subdivide(case.mesh.kind, desk, &case.counts, case.depth, 1);
+        let told = exports::subdivide(
+            case.given.mesh.kind,
+            desk,
+            &case.given.counts,
+            case.depth,
+            1,
+        );
         let took = began.elapsed();
         assert_eq!((told.number, told.answer[1]), (0, self.left.verts));
         took
     }
 
     fn original(&self) -> Duration {
-        let (mesh, depth) = (&self.case.mesh, self.case.depth);
+        let (mesh, depth) = (&self.case.given.mesh, self.case.depth);
         let (took, verts) = match mesh.kind {
             Kind::Cubes => {
                 let mut geom = mesh.geometry::<4, 8, CubeData>();
@@ -88,42 +96,55 @@ impl Ready {
         took
     }
 
-    /// The best time of each side; they take turns, so that what disturbs one disturbs the other.
-    fn best(&self) -> (Duration, Duration) {
-        let (mut ours, mut theirs) = (Duration::MAX, Duration::MAX);
-        let mut desk = self.case.desk();
-        let (mut runs, began) = (0, Instant::now());
-        while runs < RUNS || began.elapsed() < MOST {
-            if runs % LENT_FOR == LENT_FOR - 1 {
-                desk = self.case.desk();
-            }
-            ours = ours.min(self.library(&mut desk));
-            theirs = theirs.min(self.original());
-            runs += 1;
-        }
-        (ours, theirs)
-    }
-
     fn print(&self) {
-        let (ours, theirs) = self.best();
-        let each = |took: Duration| took.as_secs_f64() * 1e9 / self.entries() as f64;
-        let us = |took: Duration| took.as_secs_f64() * 1e6;
-        println!(
-            "| {:.2} | {} | {} | {} | {:.1} µs | {:.1} µs | {:.1} ns | {:.1} ns |",
-            us(ours) / us(theirs),
-            self.name,
-            self.case.depth,
-            self.entries(),
-            us(ours),
-            us(theirs),
-            each(ours),
-            each(theirs)
+        let mut desk = self.case.desk();
+        let times = best(
+            |again| {
+                if again {
+                    desk = self.case.desk();
+                }
+                self.library(&mut desk)
+            },
+            || self.original(),
         );
+        let mesh = format!("{} | {}", self.name, self.case.depth);
+        row(&mesh, self.entries(), times);
     }
+}
+
+/// The best time of each side; they take turns, so that what disturbs one disturbs the other. The library's side is told when to lend
+/// anew.
+fn best(
+    mut library: impl FnMut(bool) -> Duration,
+    mut original: impl FnMut() -> Duration,
+) -> (Duration, Duration) {
+    let (mut ours, mut theirs) = (Duration::MAX, Duration::MAX);
+    let (mut runs, began) = (0, Instant::now());
+    while runs < RUNS || began.elapsed() < MOST {
+        ours = ours.min(library(runs % LENT_FOR == LENT_FOR - 1));
+        theirs = theirs.min(original());
+        runs += 1;
+    }
+    (ours, theirs)
+}
+
+/// A row of a table: a mesh, so many entries, and the time of each side.
+fn row(mesh: &str, entries: usize, (ours, theirs): (Duration, Duration)) {
+    let each = |took: Duration| took.as_secs_f64() * 1e9 / entries as f64;
+    let us = |took: Duration| took.as_secs_f64() * 1e6;
+    println!(
+        "| {:.2} | {mesh} | {entries} | {:.1} µs | {:.1} µs | {:.1} ns | {:.1} ns |",
+        us(ours) / us(theirs),
+        us(ours),
+        us(theirs),
+        each(ours),
+        each(theirs)
+    );
 }
 
 /// Tables, a row a mesh: how long the library takes beside the original, and what an entry that is left costs on each side.
 pub fn tables(kind: Kind) {
+    let heading = || heading("mesh | passes", "entries left");
     heading();
     // From some hundred to more than half a million tetrahedra left, or to a hundred thousand cubes.
     for n in [1, 2, 3, 4, 6, 8, 12] {
@@ -147,9 +168,94 @@ pub fn tables(kind: Kind) {
     println!();
 }
 
-fn heading() {
-    println!("| library / original | mesh | passes | entries left | library | original | library, an entry | original, an entry |");
-    println!("|---|---|---|---|---|---|---|---|");
+fn heading(mesh: &str, entries: &str) {
+    println!("| library / original | {mesh} | {entries} | library | original | library, an entry | original, an entry |");
+    let columns = 6 + mesh.split(" | ").count();
+    println!("|{}", "---|".repeat(columns));
+}
+
+/// A table for triangulation or normals: meshes that grow, every list exactly full.
+pub fn table(entry: Entry) {
+    heading("mesh", "entries");
+    let sizes = match entry {
+        Entry::Triangulation => [3, 6, 12, 20, 32, 46],
+        Entry::Normals3 => [7, 15, 30, 60, 120, 224],
+        Entry::Normals4 => [3, 5, 8, 12, 18, 25],
+    };
+    for n in sizes {
+        let call = measured(entry, n);
+        let sizes = call.given.counts;
+        let mesh = match entry {
+            Entry::Triangulation => format!("block of {} cubes", sizes.volumes),
+            Entry::Normals3 => format!("sheet of {} triangles", sizes.areas),
+            Entry::Normals4 => format!("block of {} tetrahedra", sizes.volumes),
+        };
+        let mut handed = call.handed();
+        let times = best(
+            |again| {
+                if again {
+                    handed = call.handed();
+                }
+                derive(&call, &mut handed)
+            },
+            || derive_original(&call),
+        );
+        row(&mesh, entries(&call), times);
+    }
+    println!();
+}
+
+/// The mesh that an entry is measured on: a sheet for the normals of triangles, else a block.
+fn measured(entry: Entry, n: u32) -> Call {
+    let mesh = match entry {
+        Entry::Normals3 => sheet(n),
+        Entry::Triangulation | Entry::Normals4 => block(entry.kind(), n),
+    };
+    Call::new(entry, mesh)
+}
+
+/// The pieces that triangulation writes; or the elements that normals come from, and the vertices that have them.
+fn entries(call: &Call) -> usize {
+    let Sizes {
+        verts,
+        areas,
+        volumes,
+        ..
+    } = call.given.counts;
+    match call.entry {
+        Entry::Triangulation => call.lent[0] / 4 + call.lent[1] / 5,
+        Entry::Normals3 => areas + verts,
+        Entry::Normals4 => volumes + verts,
+    }
+}
+
+fn derive(call: &Call, (bench, lists): &mut (Bench, Vec<Vec<u32>>)) -> Duration {
+    let began = Instant::now();
+    let told = exports::derive(call.entry, bench, &call.given.counts, lists);
+    let took = began.elapsed();
+    assert_eq!(told.number, 0);
+    took
+}
+
+fn derive_original(call: &Call) -> Duration {
+    /// The result is let go after the time was taken.
+    fn timed<G, T>(geom: G, run: impl Fn(G) -> T) -> Duration {
+        let began = Instant::now();
+        let made = run(geom);
+        let took = began.elapsed();
+        drop(black_box(made));
+        took
+    }
+    let mesh = &call.given.mesh;
+    match call.entry {
+        Entry::Triangulation => timed(mesh.geometry::<4, 8, CubeData>(), SimplicialGeometry::from),
+        Entry::Normals3 => timed(&mesh.geometry::<3, 4, SimplexData>(), |geom| {
+            geom.compute_normals_3d()
+        }),
+        Entry::Normals4 => timed(&mesh.geometry::<3, 4, SimplexData>(), |geom| {
+            geom.compute_normals_4d()
+        }),
+    }
 }
 
 /// Other meshes: where one list alone has entries, where nothing grows, and where far more is lent than is needed.
@@ -194,25 +300,51 @@ fn walk(mesh: &Mesh) -> Curve {
 pub fn one(kind: Kind, n: u32, side: &str) -> Option<()> {
     let ready = Ready::new("block".into(), block(kind, n), 2);
     let mut desk = ready.case.desk();
+    let mesh = &ready.case.given.mesh;
     if side != "library" {
         // As the library's side does before its call.
-        desk.first.put(&ready.case.mesh);
+        desk.first.put(mesh);
     }
-    let built = || match kind {
-        Kind::Cubes => drop(black_box(ready.case.mesh.geometry::<4, 8, CubeData>())),
-        Kind::Simplices => drop(black_box(ready.case.mesh.geometry::<3, 4, SimplexData>())),
+    one_side(side, mesh, || ready.library(&mut desk), || ready.original())?;
+    println!("{} entries left", ready.entries());
+    Some(())
+}
+
+/// The same of triangulation or normals.
+pub fn one_derived(entry: Entry, n: u32, side: &str) -> Option<()> {
+    let call = measured(entry, n);
+    let mut handed = call.handed();
+    one_side(
+        side,
+        &call.given.mesh,
+        || derive(&call, &mut handed),
+        || derive_original(&call),
+    )?;
+    println!("{} entries", entries(&call));
+    Some(())
+}
+
+/// Runs one side. The original builds a geometry of its own.
+fn one_side(
+    side: &str,
+    mesh: &Mesh,
+    library: impl FnOnce() -> Duration,
+    original: impl FnOnce() -> Duration,
+) -> Option<()> {
+    let built = || match mesh.kind {
+        Kind::Cubes => drop(black_box(mesh.geometry::<4, 8, CubeData>())),
+        Kind::Simplices => drop(black_box(mesh.geometry::<3, 4, SimplexData>())),
     };
     match side {
         "library" => {
             built();
-            ready.library(&mut desk);
+            library();
         }
         "original" => {
-            ready.original();
+            original();
         }
         "none" => built(),
         _ => return None,
     }
-    println!("{} entries left", ready.entries());
     Some(())
 }

@@ -1,4 +1,5 @@
-//! A closed block of cubes, or of tetrahedra: n cubes along x, y and z, all edges as lines, the outer faces as areas. Measured meshes.
+//! Measured meshes. A closed block of cubes, or of tetrahedra: n cubes along x, y and z, all edges as lines, the outer faces as areas. A
+//! sheet of triangles.
 use reference::{
     memory::triangulated,
     mesh::{Element, Kind, Mesh, Vertex},
@@ -23,6 +24,20 @@ fn cubes(n: u32) -> Mesh {
             .collect(),
         ..Mesh::empty(Kind::Cubes)
     }
+}
+
+/// A sheet of triangles over uneven ground: n squares along x and y, each cut in two as section 6 cuts it.
+pub fn sheet(n: u32) -> Mesh {
+    let flat = |count: u32| (0..count).flat_map(move |y| (0..count).map(move |x| [x, y]));
+    triangulated(&Mesh {
+        verts: flat(n + 1)
+            .map(|[x, y]| vertex([x, y, x * y % 7], n))
+            .collect(),
+        areas: flat(n)
+            .map(|[x, y]| box_at(n, [x, y, 0], &[0, 1]))
+            .collect(),
+        ..Mesh::empty(Kind::Cubes)
+    })
 }
 
 /// All places of the grid, x first; an axis has n of them, and `more`.
@@ -82,7 +97,7 @@ fn faces(n: u32) -> Vec<Element> {
 #[cfg(test)]
 mod tests {
     use super::*;
-    use reference::memory::judge_mesh;
+    use reference::memory::{judge_mesh, normals_3d, Normal};
 
     /// Counts worked out by hand for two cubes along each axis: 27 vertices, 3·2·9 edges, 6·4 outer faces, 8 cubes; a square is cut
     /// into 2 triangles, a cube into 6 tetrahedra.
@@ -95,5 +110,14 @@ mod tests {
             assert_eq!((sizes.areas, sizes.volumes), (areas, volumes));
             assert_eq!(judge_mesh(&mesh), None);
         }
+    }
+
+    /// 9 vertices, and 2 triangles for each of 4 squares; every vertex has a normal, since no triangle looks down.
+    #[test]
+    fn the_sheet_of_two() {
+        let mesh = sheet(2);
+        assert_eq!((mesh.verts.len(), mesh.areas.len()), (9, 8));
+        assert_eq!(judge_mesh(&mesh), None);
+        assert!(!normals_3d(&mesh).contains(&Normal::Flat));
     }
 }

@@ -1,4 +1,5 @@
-//! One call of a refinement: a mesh, what is lent for it, and what is wrong with it.
+//! What a caller hands to an entry: a mesh on one bench, and what is wrong with it; and one call of a refinement, with all that is lent for
+//! it.
 use crate::desk::{slices_mut, Desk, SLICES};
 use reference::{
     memory::{Bench, Handed},
@@ -25,7 +26,7 @@ pub fn list_of(slice: usize) -> usize {
     slice.saturating_sub(1)
 }
 
-/// A word of the first bench that is not the mesh's own.
+/// A word of the bench that is not the mesh's own.
 #[derive(Copy, Clone, Debug)]
 pub struct Patch {
     pub slice: usize,
@@ -33,61 +34,106 @@ pub struct Patch {
     pub word: u32,
 }
 
+/// A mesh on a bench, as a caller hands it in.
 #[derive(Clone, Debug)]
-pub struct Case {
+pub struct Given {
     pub mesh: Mesh,
     pub patches: Vec<Patch>,
     /// What the caller says of the mesh's sizes.
     pub counts: Sizes,
     /// Lent words of each slice.
-    pub first: [usize; 8],
+    pub words: [usize; 8],
+    /// The seed of the words in all cells past the mesh.
+    pub fill: u64,
+}
+
+impl Given {
+    /// A mesh with so many cells of each list, nothing wrong.
+    pub fn new(mesh: Mesh, cells: &Sizes) -> Given {
+        Given {
+            counts: mesh.sizes(),
+            patches: vec![],
+            words: words_for(mesh.kind, cells),
+            mesh,
+            fill: 0,
+        }
+    }
+
+    /// The bench as it is handed in, and the generator of the words in all other lent cells.
+    pub fn bench(&self) -> (Bench, Rng) {
+        let mut rng = Rng::new(self.fill);
+        let mut bench = Bench::lent(self.mesh.kind, &self.mesh.sizes());
+        bench.put(&self.mesh);
+        for patch in &self.patches {
+            if let Some(place) = slices_mut(&mut bench)[patch.slice].get_mut(patch.at) {
+                *place = patch.word;
+            }
+        }
+        lengthen(&mut bench, self.words, &mut rng);
+        (bench, rng)
+    }
+
+    /// The same, as the reference is handed it by an entry of one bench: nothing is wrong with what a refinement would be lent beside it.
+    pub fn handed(&self, bench: &Bench) -> Handed {
+        let verts = bench.cells(self.mesh.kind).verts;
+        Handed {
+            kind: self.mesh.kind,
+            first: bench.clone(),
+            second: bench.clone(),
+            book: 0,
+            sum: 4 * verts,
+            tally: 2 * verts,
+            counts: self.counts,
+        }
+    }
+}
+
+/// Brings each slice to its length, with any words in the new cells.
+fn lengthen(bench: &mut Bench, words: [usize; 8], rng: &mut Rng) {
+    for (slice, length) in slices_mut(bench).into_iter().zip(words) {
+        slice.resize_with(length, || rng.draw() as u32);
+    }
+}
+
+/// So many cells with any words.
+pub fn any_words(rng: &mut Rng, length: usize) -> Vec<u32> {
+    (0..length).map(|_| rng.draw() as u32).collect()
+}
+
+/// One call of a refinement: the mesh on the first bench.
+#[derive(Clone, Debug)]
+pub struct Case {
+    pub given: Given,
+    /// Lent words of the second bench's slices.
     pub second: [usize; 8],
     pub book: usize,
     pub sums: usize,
     pub tallies: usize,
     pub depth: u8,
     pub smooth_time: u8,
-    /// The seed of the words in all cells past the mesh.
-    pub fill: u64,
 }
 
 impl Case {
     /// A mesh with so many cells of each list and of the book, nothing wrong.
     pub fn new(mesh: Mesh, cells: &Sizes, book: usize, depth: u8, smooth_time: u8) -> Case {
-        let words = words_for(mesh.kind, cells);
+        let given = Given::new(mesh, cells);
         Case {
-            counts: mesh.sizes(),
-            mesh,
-            patches: vec![],
-            first: words,
-            second: words,
+            second: given.words,
+            given,
             book: 4 * book,
             sums: 4 * cells.verts,
             tallies: 2 * cells.verts,
             depth,
             smooth_time,
-            fill: 0,
         }
     }
 
     /// The lent words as the caller hands them in.
     pub fn desk(&self) -> Desk {
-        let mut rng = Rng::new(self.fill);
-        let mut word = || rng.draw() as u32;
-        let mut first = Bench::lent(self.mesh.kind, &self.mesh.sizes());
-        first.put(&self.mesh);
-        for patch in &self.patches {
-            if let Some(place) = slices_mut(&mut first)[patch.slice].get_mut(patch.at) {
-                *place = patch.word;
-            }
-        }
+        let (first, mut rng) = self.given.bench();
         let mut second = Bench::default();
-        for (bench, words) in [(&mut first, self.first), (&mut second, self.second)] {
-            for (slice, length) in slices_mut(bench).into_iter().zip(words) {
-                slice.resize_with(length, &mut word);
-            }
-        }
-        let mut filled = |length: usize| (0..length).map(|_| word()).collect();
+        lengthen(&mut second, self.second, &mut rng);
+        let mut filled = |length: usize| any_words(&mut rng, length);
         Desk {
             first,
             second,
@@ -100,35 +146,43 @@ impl Case {
     /// The same, as the reference is handed it.
     pub fn handed(&self, desk: &Desk) -> Handed {
         Handed {
-            kind: self.mesh.kind,
+            kind: self.given.mesh.kind,
             first: desk.first.clone(),
             second: desk.second.clone(),
             book: self.book,
             sum: self.sums,
             tally: self.tallies,
-            counts: self.counts,
+            counts: self.given.counts,
         }
     }
 }
 
 impl fmt::Display for Case {
     fn fmt(&self, f: &mut fmt::Formatter) -> fmt::Result {
+        writeln!(f, "depth {}, smooth_time {}", self.depth, self.smooth_time)?;
+        writeln!(
+            f,
+            "words lent beside the first bench: second {:?}, book {}, sums {}, tallies {}",
+            self.second, self.book, self.sums, self.tallies
+        )?;
+        self.given.fmt(f)
+    }
+}
+
+impl fmt::Display for Given {
+    fn fmt(&self, f: &mut fmt::Formatter) -> fmt::Result {
         let mesh = &self.mesh;
         writeln!(
             f,
-            "{:?}, depth {}, smooth_time {}, free cells filled from seed {}",
-            mesh.kind, self.depth, self.smooth_time, self.fill
+            "{:?}, free cells filled from seed {}",
+            mesh.kind, self.fill
         )?;
         writeln!(
             f,
             "sizes stated {:?} (vertices, points, lines, areas, volumes, curves, curve vertices)",
             self.counts.list()
         )?;
-        writeln!(
-            f,
-            "words lent: first bench {:?}, second {:?}, book {}, sums {}, tallies {}",
-            self.first, self.second, self.book, self.sums, self.tallies
-        )?;
+        writeln!(f, "words lent to the mesh: {:?}", self.words)?;
         for (i, v) in mesh.verts.iter().enumerate() {
             let at = v.bits.map(f32::from_bits);
             writeln!(

@@ -60,3 +60,11 @@ pub fn slices_mut(bench: &mut Bench) -> [&mut Vec<u32>; 8] {
         &mut bench.curve_verts,
     ]
 }
+
+/// For tests: spoils a word, if there is one.
+#[cfg(test)]
+pub fn flip(word: Option<&mut u32>) {
+    if let Some(word) = word {
+        *word ^= 1;
+    }
+}

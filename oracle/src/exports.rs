@@ -1,6 +1,12 @@
 //! The functions of libaljumeste.a. Each is defined at every input, so that a call needs no care.
-use crate::desk::{Desk, Told};
-use reference::mesh::{Kind, Sizes};
+use crate::{
+    derived::{Answered, Entry},
+    desk::{Desk, Told},
+};
+use reference::{
+    memory::Bench,
+    mesh::{Kind, Sizes},
+};
 
 extern "C" {
     fn aljumeste_root(x: f32) -> f32;
@@ -136,5 +142,101 @@ pub fn subdivide(kind: Kind, desk: &mut Desk, sizes: &Sizes, depth: u8, smooth_t
         Kind::Cubes => {
             refinement!(aljumeste_subdivide_cubes, desk, sizes, depth, smooth_time)
         }
+    }
+}
+
+/// An entry over the mesh on one bench, by the name of its export, with what it takes beside the mesh and its sizes.
+macro_rules! over_mesh {
+    ($export:ident, $bench:expr, $sizes:expr, $($name:ident: $type:ty = $value:expr),*) => {{
+        extern "C" {
+            fn $export(
+                positions: *const f32,
+                positions_words: usize,
+                marks: *const u32,
+                marks_words: usize,
+                points: *const u32,
+                points_words: usize,
+                lines: *const u32,
+                lines_words: usize,
+                areas: *const u32,
+                areas_words: usize,
+                volumes: *const u32,
+                volumes_words: usize,
+                curves: *const u32,
+                curves_words: usize,
+                steps: *const u32,
+                steps_words: usize,
+                sizes: &[usize; 7],
+                $($name: $type),*
+            ) -> u8;
+        }
+        let bench: &Bench = $bench;
+        unsafe {
+            $export(
+                bench.pos.as_ptr().cast(),
+                bench.pos.len(),
+                bench.marks.as_ptr(),
+                bench.marks.len(),
+                bench.points.as_ptr(),
+                bench.points.len(),
+                bench.lines.as_ptr(),
+                bench.lines.len(),
+                bench.areas.as_ptr(),
+                bench.areas.len(),
+                bench.volumes.as_ptr(),
+                bench.volumes.len(),
+                bench.curves.as_ptr(),
+                bench.curves.len(),
+                bench.curve_verts.as_ptr(),
+                bench.curve_verts.len(),
+                &$sizes.list(),
+                $($value),*
+            )
+        }
+    }};
+}
+
+/// Triangulation or normals, into the lists that are lent for what is written. The mesh is borrowed as if it might change, so that a
+/// comparison sees that it doesn't.
+pub fn derive(entry: Entry, bench: &mut Bench, sizes: &Sizes, lists: &mut [Vec<u32>]) -> Answered {
+    match (entry, lists) {
+        (Entry::Triangulation, [triangles, tetrahedra]) => {
+            let mut answer = [0; 7];
+            let number = over_mesh!(
+                aljumeste_triangulate,
+                bench,
+                sizes,
+                triangles: *mut u32 = triangles.as_mut_ptr(),
+                triangles_words: usize = triangles.len(),
+                tetrahedra: *mut u32 = tetrahedra.as_mut_ptr(),
+                tetrahedra_words: usize = tetrahedra.len(),
+                answer: &mut [usize; 7] = &mut answer
+            );
+            Answered {
+                number,
+                sizes: Some(answer),
+            }
+        }
+        (Entry::Normals3, [normals]) => Answered {
+            number: over_mesh!(
+                aljumeste_compute_normals_3d,
+                bench,
+                sizes,
+                normals: *mut f32 = normals.as_mut_ptr().cast(),
+                normals_words: usize = normals.len()
+            ),
+            sizes: None,
+        },
+        (Entry::Normals4, [normals]) => Answered {
+            number: over_mesh!(
+                aljumeste_compute_normals_4d,
+                bench,
+                sizes,
+                normals: *mut f32 = normals.as_mut_ptr().cast(),
+                normals_words: usize = normals.len()
+            ),
+            sizes: None,
+        },
+        (entry, lists) => panic!("{entry:?} writes no {} lists", lists.len()),
     }
 }

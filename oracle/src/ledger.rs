@@ -10,8 +10,7 @@ use crate::{
     desk::{Desk, Told},
     draw::{needs, sizes, Cells},
     exports,
-    refinement::Compared,
-    shrink::smallest,
+    refinement::{described, Compared},
 };
 use reference::{
     ledger::{ledger, refined, Ledger},
@@ -23,18 +22,22 @@ use reference::{
 
 /// So many meshes of a kind; stops at the first that is not as demand 3 says.
 pub fn compare(kind: Kind, seed: u64, cases: u64) -> Compared {
-    let mut rng = Rng::new(seed);
-    let mut found = Compared::default();
-    while found.cases < cases && found.apart.is_none() {
+    Compared::of(seed, cases, |rng, found| {
         let way = rng.below(WAYS.len());
-        let case = draw(&mut rng, kind, way);
+        let case = draw(rng, kind, way);
         match check(&case) {
-            Ok(seen) => count(&mut found, way, &seen),
-            Err(_) => found.apart = Some(described(case)),
+            Ok(seen) => count(found, way, &seen),
+            Err(_) => found.apart = Some(described(case, wrong)),
         }
-        found.cases += 1;
+    })
+}
+
+/// What is wrong with an accepted mesh's ledger.
+fn wrong(case: &Case) -> Option<String> {
+    match judge_mesh(&case.given.mesh) {
+        None => check(case).err(),
+        Some(_) => None,
     }
-    found
 }
 
 /// An accepted mesh, lent more than is needed, what is needed, or what only fewer passes need.
@@ -46,7 +49,7 @@ fn draw(rng: &mut Rng, kind: Kind, way: usize) -> Case {
     let smooth_time = rng.below(2) as u8;
     let cells = lending(rng, &needs(&mesh, depth, smooth_time == 1));
     let mut case = Case::new(mesh, &sizes(&cells), cells[7], depth, smooth_time);
-    case.fill = rng.draw();
+    case.given.fill = rng.draw();
     case
 }
 
@@ -81,13 +84,13 @@ struct Seen {
 fn check(case: &Case) -> Result<Seen, String> {
     let (told, left) = run(case)?;
     let passes = whole_passes(case, &told)?;
-    let (before, after) = hold(&case.mesh, passes, &left)?;
+    let (before, after) = hold(&case.given.mesh, passes, &left)?;
     Ok(Seen {
         number: told.number,
         passes,
         before,
         after,
-        volumes: case.mesh.volumes.len(),
+        volumes: case.given.mesh.volumes.len(),
         left,
     })
 }
@@ -95,8 +98,14 @@ fn check(case: &Case) -> Result<Seen, String> {
 /// What a caller is told, and the mesh that is left for it in the lent words.
 fn run(case: &Case) -> Result<(Told, Mesh), String> {
     let mut desk = case.desk();
-    let kind = case.mesh.kind;
-    let told = exports::subdivide(kind, &mut desk, &case.counts, case.depth, case.smooth_time);
+    let kind = case.given.mesh.kind;
+    let told = exports::subdivide(
+        kind,
+        &mut desk,
+        &case.given.counts,
+        case.depth,
+        case.smooth_time,
+    );
     let left = left(kind, &desk, &told)?;
     Ok((told, left))
 }
@@ -203,9 +212,7 @@ fn undone(list: &[Element]) -> Option<Vec<Element>> {
 }
 
 fn count(found: &mut Compared, way: usize, seen: &Seen) {
-    let mut add = |name: String, count: usize| {
-        *found.classes.entry(name).or_default() += count as u64;
-    };
+    let mut add = |name: String, count: usize| found.met(name, count as u64);
     let passes = seen.passes;
     add(format!("way: {}", WAYS[way].0), 1);
     add(format!("answer {}, passes {passes}", seen.number), 1);
@@ -223,13 +230,6 @@ fn count(found: &mut Compared, way: usize, seen: &Seen) {
     let pieces = seen.volumes << (3 * passes);
     let dropped = pieces.saturating_sub(seen.left.volumes.len());
     add("pieces dropped".into(), dropped);
-}
-
-fn described(case: Case) -> String {
-    let shows = |c: &Case| judge_mesh(&c.mesh).is_none() && check(c).is_err();
-    let least = smallest(case, &shows);
-    let why = check(&least).err().unwrap_or_default();
-    format!("{least}{why}")
 }
 
 #[cfg(test)]
@@ -261,15 +261,7 @@ mod tests {
 
     fn demand_3_is_seen(kind: Kind) {
         let found = compare(kind, 1, CASES);
-        if let Some(apart) = &found.apart {
-            panic!("{apart}");
-        }
-        assert_eq!(found.cases, CASES);
-        let missed: Vec<(String, u64)> = wanted()
-            .into_iter()
-            .filter(|(class, least)| found.classes.get(class).is_none_or(|n| n < least))
-            .collect();
-        assert_eq!(missed, vec![], "met: {:#?}", found.classes);
+        found.is_whole(CASES, wanted().into_iter());
         let dropped = found.classes["pieces dropped"];
         assert_eq!(dropped > 0, kind == Kind::Cubes, "{dropped} dropped");
     }
@@ -316,7 +308,7 @@ mod tests {
         for kind in [Kind::Simplices, Kind::Cubes] {
             for run in runs(kind, 50) {
                 let (name, closed) = WAYS[run.way];
-                for mesh in [&run.case.mesh, &run.left] {
+                for mesh in [&run.case.given.mesh, &run.left] {
                     let empty = ledger(mesh).is_empty();
                     assert_eq!(empty, closed.unwrap_or(empty), "{kind:?}, {name}");
                 }
@@ -348,7 +340,7 @@ mod tests {
             let mut noticed = 0;
             for run in runs(kind, 20) {
                 let Some(at) = solid(&run.left) else { continue };
-                let handed = &run.case.mesh;
+                let handed = &run.case.given.mesh;
                 let expected = put_through(handed, run.passes, ledger(handed));
                 for (i, spoil) in spoils.into_iter().enumerate() {
                     let mut wrong = run.left.clone();
@@ -369,7 +361,7 @@ mod tests {
         for kind in [Kind::Simplices, Kind::Cubes] {
             let (mut torn, mut closed) = (0, 0);
             for Run { case, passes, .. } in runs(kind, 20) {
-                let mesh = &case.mesh;
+                let mesh = &case.given.mesh;
                 if passes == 0 || mesh.volumes.is_empty() {
                     continue;
                 }
@@ -397,7 +389,7 @@ mod tests {
             let ordered = ledger(&run.left);
             run.left.volumes.rotate_left(8);
             assert_eq!(ledger(&run.left), ordered);
-            assert!(hold(&run.case.mesh, run.passes, &run.left).is_err());
+            assert!(hold(&run.case.given.mesh, run.passes, &run.left).is_err());
             noticed += 1;
         }
         assert!(noticed > 5, "{noticed}");

@@ -1,14 +1,17 @@
 //! Compares the static library `aljumeste` with Rust's own arithmetic, bit for bit, where a NaN equals any NaN, and with the original
-//! refinements in reference/.
+//! refinements, triangulation and normals in reference/.
 //!
 //! `all` takes the root of every one of the 2^32 patterns. `spread` takes the roots of a million patterns and normalises a million
-//! vectors of three and of four components. `KIND SEED COUNT` refines so many random meshes of a kind, cubes or simplices. `sample KIND`
-//! prints cases with the reference's answers, for other programs. `bench` measures speed. `ledger SEED COUNT` refines so many meshes of each
+//! vectors of three and of four components. `KIND SEED COUNT` refines so many random meshes of a kind, cubes or simplices; `ENTRY SEED
+//! COUNT` cuts or shades so many, with triangulation, normals3 or normals4. `sample KIND` prints cases with the reference's answers, for
+//! other programs. `bench` measures speed. `ledger SEED COUNT` refines so many meshes of each
 //! kind, and holds the ledgers of what is left against document 01's section 5.
 mod bench;
 mod block;
 mod case;
 mod closed;
+mod damage;
+mod derived;
 mod desk;
 mod draw;
 mod exports;
@@ -20,6 +23,7 @@ mod root;
 mod sample;
 mod shrink;
 
+use derived::{Entry, ENTRIES};
 use reference::mesh::Kind;
 use std::{env, process::ExitCode};
 
@@ -78,20 +82,27 @@ fn main() -> ExitCode {
         }),
         ["bench"] => {
             KINDS.into_iter().for_each(bench::tables);
+            ENTRIES
+                .into_iter()
+                .for_each(|(_, entry)| bench::table(entry));
             Some(true)
         }
-        ["bench", "one", kind, size, side] => counted(kind, size, side),
+        ["bench", entry] => entry_named(entry).map(|entry| {
+            bench::table(entry);
+            true
+        }),
+        ["bench", "one", what, size, side] => counted(what, size, side),
         ["ledger"] => ledgers("1", "3000"),
         ["ledger", seed, cases] => ledgers(seed, cases),
-        [kind, seed, cases] => refined(kind, seed, cases),
+        [what, seed, cases] => compared(what, seed, cases),
         _ => None,
     };
     match agree {
         Some(true) => ExitCode::SUCCESS,
         Some(false) => ExitCode::from(1),
         None => {
-            eprintln!("usage: cargo run --release -- all | spread | KIND SEED COUNT | sample KIND | bench | bench one KIND SIZE SIDE | ledger [SEED COUNT]");
-            eprintln!("KIND is cubes or simplices, SIDE library, original or none");
+            eprintln!("usage: cargo run --release -- all | spread | WHAT SEED COUNT | sample KIND | bench [ENTRY] | bench one WHAT SIZE SIDE | ledger [SEED COUNT]");
+            eprintln!("KIND is cubes or simplices, ENTRY triangulation, normals3 or normals4, WHAT either, SIDE library, original or none");
             ExitCode::from(2)
         }
     }
@@ -106,8 +117,12 @@ fn print(found: &[(&str, Compared)]) -> Option<bool> {
 }
 
 /// Prints what a comparison of random meshes found: whether all agree. None where a word is not understood.
-fn refined(kind: &str, seed: &str, cases: &str) -> Option<bool> {
-    let found = refinement::library(kind_named(kind)?, seed.parse().ok()?, cases.parse().ok()?);
+fn compared(what: &str, seed: &str, cases: &str) -> Option<bool> {
+    let (seed, cases) = (seed.parse().ok()?, cases.parse().ok()?);
+    let found = match entry_named(what) {
+        Some(entry) => derived::library(entry, seed, cases),
+        None => refinement::library(kind_named(what)?, seed, cases),
+    };
     found.print();
     Some(found.apart.is_none())
 }
@@ -124,8 +139,13 @@ fn ledgers(seed: &str, cases: &str) -> Option<bool> {
     Some(agree == [true; 2])
 }
 
-fn counted(kind: &str, size: &str, side: &str) -> Option<bool> {
-    bench::one(kind_named(kind)?, size.parse().ok()?, side).map(|()| true)
+fn counted(what: &str, size: &str, side: &str) -> Option<bool> {
+    let size = size.parse().ok()?;
+    let done = match entry_named(what) {
+        Some(entry) => bench::one_derived(entry, size, side),
+        None => bench::one(kind_named(what)?, size, side),
+    };
+    done.map(|()| true)
 }
 
 fn kind_named(name: &str) -> Option<Kind> {
@@ -134,6 +154,11 @@ fn kind_named(name: &str) -> Option<Kind> {
         "simplices" => Some(Kind::Simplices),
         _ => None,
     }
+}
+
+fn entry_named(name: &str) -> Option<Entry> {
+    let found = ENTRIES.into_iter().find(|(known, _)| *known == name);
+    found.map(|(_, entry)| entry)
 }
 
 const KINDS: [Kind; 2] = [Kind::Simplices, Kind::Cubes];

@@ -6,14 +6,14 @@ use crate::{
     desk::{slices, Desk, Told, SLICES},
     draw::{draw, Drawn},
     exports,
-    shrink::smallest,
+    shrink::{smallest, Shrink},
 };
 use reference::{
     memory::{Answer, Bench, Ended},
     mesh::{Kind, Mesh, Sizes},
     random::Rng,
 };
-use std::collections::BTreeMap;
+use std::{collections::BTreeMap, fmt::Display};
 
 /// What refines: the library, or in tests something that goes wrong on purpose.
 pub type Engine<'a> = &'a dyn Fn(Kind, &mut Desk, &Sizes, u8, u8) -> Told;
@@ -28,17 +28,13 @@ pub struct Compared {
 
 /// So many cases of a kind; stops at the first on which the two sides differ.
 pub fn compare(engine: Engine, kind: Kind, seed: u64, cases: u64) -> Compared {
-    let mut rng = Rng::new(seed);
-    let mut found = Compared::default();
-    while found.cases < cases && found.apart.is_none() {
-        let drawn = draw(&mut rng, kind);
+    Compared::of(seed, cases, |rng, found| {
+        let drawn = draw(rng, kind);
         match differs(&drawn.case, engine) {
-            Ok(answer) => found.count(&drawn, &answer),
-            Err(_) => found.apart = Some(described(drawn.case, engine)),
+            Ok(answer) => count(found, &drawn, &answer),
+            Err(_) => found.apart = Some(described(drawn.case, |c| differs(c, engine).err())),
         }
-        found.cases += 1;
-    }
-    found
+    })
 }
 
 /// The library against the reference.
@@ -47,18 +43,43 @@ pub fn library(kind: Kind, seed: u64, cases: u64) -> Compared {
 }
 
 impl Compared {
-    fn count(&mut self, drawn: &Drawn, answer: &Answer) {
-        let number = number(answer.ended);
-        let mut class = |name: String| *self.classes.entry(name).or_default() += 1;
-        let passes = if answer.passes == 0 { "no" } else { "some" };
-        class(format!("answer {number} after {passes} passes"));
-        class(format!("depth {}", drawn.case.depth));
+    /// Tries so many cases, each drawn from the one generator; stops at the first on which the two sides differ.
+    pub fn of(seed: u64, cases: u64, mut one: impl FnMut(&mut Rng, &mut Compared)) -> Compared {
+        let mut rng = Rng::new(seed);
+        let mut found = Compared::default();
+        while found.cases < cases && found.apart.is_none() {
+            one(&mut rng, &mut found);
+            found.cases += 1;
+        }
+        found
+    }
+
+    /// A class was met so many times more.
+    pub fn met(&mut self, class: impl Into<String>, times: u64) {
+        *self.classes.entry(class.into()).or_default() += times;
+    }
+
+    /// How a case without damages was lent, with the answer; or its damages.
+    pub fn drawn<T>(&mut self, drawn: &Drawn<T>, number: u8) {
         if drawn.damages.is_empty() {
-            class(format!("{}: {number}", drawn.lending));
+            self.met(format!("{}: {number}", drawn.lending), 1);
         }
         for damage in &drawn.damages {
-            class((*damage).into());
+            self.met(*damage, 1);
         }
+    }
+
+    /// For tests: nothing differs, so many were tried, and every class was met as often as it is wanted.
+    #[cfg(test)]
+    pub fn is_whole(&self, cases: u64, wanted: impl Iterator<Item = (String, u64)>) {
+        if let Some(apart) = &self.apart {
+            panic!("{apart}");
+        }
+        assert_eq!(self.cases, cases);
+        let missed: Vec<_> = wanted
+            .filter(|(class, least)| self.classes.get(class).is_none_or(|n| n < least))
+            .collect();
+        assert_eq!(missed, vec![], "met: {:#?}", self.classes);
     }
 
     pub fn print(&self) {
@@ -72,9 +93,18 @@ impl Compared {
     }
 }
 
-fn described(case: Case, engine: Engine) -> String {
-    let least = smallest(case, &|c| differs(c, engine).is_err());
-    let why = differs(&least, engine).expect_err("the smallest one differs too");
+fn count(found: &mut Compared, drawn: &Drawn<Case>, answer: &Answer) {
+    let number = number(answer.ended);
+    let passes = if answer.passes == 0 { "no" } else { "some" };
+    found.met(format!("answer {number} after {passes} passes"), 1);
+    found.met(format!("depth {}", drawn.case.depth), 1);
+    found.drawn(drawn, number);
+}
+
+/// The smallest case that shows what a case shows, and why it does, in words.
+pub fn described<T: Shrink + Display>(case: T, why: impl Fn(&T) -> Option<String>) -> String {
+    let least = smallest(case, &|c| why(c).is_some());
+    let why = why(&least).unwrap_or_default();
     format!("{least}{why}")
 }
 
@@ -92,8 +122,14 @@ pub fn differs(case: &Case, engine: Engine) -> Result<Answer, String> {
         .handed(&before)
         .subdivide(case.depth, case.smooth_time.into());
     let mut desk = before.clone();
-    let kind = case.mesh.kind;
-    let told = engine(kind, &mut desk, &case.counts, case.depth, case.smooth_time);
+    let kind = case.given.mesh.kind;
+    let told = engine(
+        kind,
+        &mut desk,
+        &case.given.counts,
+        case.depth,
+        case.smooth_time,
+    );
     same_answer(&told, &expected)?;
     match &expected.left {
         None => same_desk(&desk, &before)?,
@@ -119,7 +155,7 @@ fn same_answer(told: &Told, expected: &Answer) -> Result<(), String> {
     ))
 }
 
-fn same_words(name: &str, ours: &[u32], theirs: &[u32]) -> Result<(), String> {
+pub fn same_words(name: &str, ours: &[u32], theirs: &[u32]) -> Result<(), String> {
     match ours.iter().zip(theirs).position(|(a, b)| a != b) {
         None if ours.len() == theirs.len() => Ok(()),
         None => Err(format!("{name}: the lengths differ")),
@@ -130,18 +166,19 @@ fn same_words(name: &str, ours: &[u32], theirs: &[u32]) -> Result<(), String> {
     }
 }
 
+/// Every word of a bench is as it was.
+pub fn same_bench(bench: &str, after: &Bench, before: &Bench) -> Result<(), String> {
+    for (slice, name) in SLICES.iter().enumerate() {
+        let name = format!("{bench} {name}");
+        same_words(&name, slices(after)[slice], slices(before)[slice])?;
+    }
+    Ok(())
+}
+
 /// Every lent word is as it was.
 fn same_desk(after: &Desk, before: &Desk) -> Result<(), String> {
-    let benches = [
-        ("the first bench's", &after.first, &before.first),
-        ("the second bench's", &after.second, &before.second),
-    ];
-    for (bench, after, before) in benches {
-        for (slice, name) in SLICES.iter().enumerate() {
-            let name = format!("{bench} {name}");
-            same_words(&name, slices(after)[slice], slices(before)[slice])?;
-        }
-    }
+    same_bench("the first bench's", &after.first, &before.first)?;
+    same_bench("the second bench's", &after.second, &before.second)?;
     same_words("the book", &after.book, &before.book)?;
     same_words("the sums", &after.sums, &before.sums)?;
     same_words("the tallies", &after.tallies, &before.tallies)
@@ -168,7 +205,10 @@ fn same_lists(bench: &Bench, mesh: &Mesh) -> Result<(), String> {
 mod tests {
     use super::*;
     use crate::{
-        draw::{DAMAGES, LISTS},
+        damage::DAMAGES,
+        derived::{self, Call, ENTRIES},
+        desk::flip,
+        draw::LISTS,
         KINDS,
     };
     use reference::mesh::{Curve, Element, Vertex, LIMIT};
@@ -209,15 +249,7 @@ mod tests {
 
     fn agrees(kind: Kind) {
         let found = library(kind, 1, CASES);
-        if let Some(apart) = &found.apart {
-            panic!("{apart}");
-        }
-        assert_eq!(found.cases, CASES);
-        let missed: Vec<String> = wanted()
-            .into_iter()
-            .filter(|class| found.classes.get(class).is_none_or(|n| *n < 5))
-            .collect();
-        assert_eq!(missed, Vec::<String>::new(), "met: {:#?}", found.classes);
+        found.is_whole(CASES, wanted().into_iter().map(|class| (class, 5)));
     }
 
     #[test]
@@ -290,6 +322,11 @@ mod tests {
                     let case = Case::new(piled(kind, &sizes), &sizes, 0, 0, 0);
                     let answer = differs(&case, &exports::subdivide).unwrap();
                     assert_eq!(number(answer.ended), expected, "{kind:?}, list {list}");
+                    for (name, entry) in ENTRIES.into_iter().filter(|(_, e)| e.kind() == kind) {
+                        let call = Call::new(entry, case.given.mesh.clone());
+                        let told = derived::differs(&call, &exports::derive);
+                        assert_eq!(told, Ok(expected), "{name}, list {list}");
+                    }
                 }
             }
         }
@@ -345,12 +382,6 @@ mod tests {
         }
     }
 
-    fn flip(word: Option<&mut u32>) {
-        if let Some(word) = word {
-            *word ^= 1;
-        }
-    }
-
     /// A wrong word in any slice, at its first entry or at its last, and a wrong answer, are found.
     #[test]
     fn wrong_refinements_are_noticed() {
@@ -402,7 +433,7 @@ mod tests {
             .find(|case| differs(case, &fault).is_err())
             .unwrap();
         let least = smallest(case, &|c| differs(c, &fault).is_err());
-        let sizes = least.mesh.sizes();
+        let sizes = least.given.mesh.sizes();
         assert_eq!(
             (least.depth, sizes.volumes, sizes.lines, sizes.areas),
             (1, 1, 0, 0)

@@ -8,8 +8,9 @@
 //! its parity; curves, each its tag and count; curve vertices, each its number and the parity of its step, 0 beside a curve's last.
 use crate::{
     case::{row_words, words_for, Case},
+    damage::WORDS,
     desk::slices,
-    draw::{draw, Drawn, WORDS},
+    draw::{draw, Drawn},
     refinement::number,
 };
 use reference::{
@@ -54,12 +55,13 @@ pub fn sample(kind: Kind) -> String {
 }
 
 /// A case in the sample's text, with its class, if it is plain and small enough and its class is not full.
-fn small(drawn: &Drawn, taken: &mut BTreeMap<String, u32>) -> Option<(String, String)> {
+fn small(drawn: &Drawn<Case>, taken: &mut BTreeMap<String, u32>) -> Option<(String, String)> {
     let mut case = drawn.case.clone();
     if !drawn.damages.iter().all(|d| WORDS.contains(d)) || !is_plain(&case) {
         return None;
     }
     for last in case
+        .given
         .mesh
         .curves
         .iter_mut()
@@ -80,12 +82,12 @@ fn small(drawn: &Drawn, taken: &mut BTreeMap<String, u32>) -> Option<(String, St
             bench
         }
     };
-    let words = |sizes: &Sizes| words_for(case.mesh.kind, sizes).iter().sum::<usize>();
+    let words = |sizes: &Sizes| words_for(case.given.mesh.kind, sizes).iter().sum::<usize>();
     let most = match number(answer.ended) {
         0 => FINISHED_WORDS,
         _ => REFUSED_WORDS,
     };
-    if words(&case.counts) + words(&answer.sizes) > most {
+    if words(&case.given.counts) + words(&answer.sizes) > most {
         return None;
     }
     let count = taken.entry(class.clone()).or_default();
@@ -95,28 +97,33 @@ fn small(drawn: &Drawn, taken: &mut BTreeMap<String, u32>) -> Option<(String, St
 
 /// Both benches are lent the same whole cells, not too many of them, and smoothing as many as the vertices.
 fn is_plain(case: &Case) -> bool {
-    let rows = row_words(case.mesh.kind);
+    let rows = row_words(case.given.mesh.kind);
     let whole = case
-        .first
+        .given
+        .words
         .iter()
         .zip(rows)
         .all(|(words, row)| words % row == 0);
-    let verts = case.first[0] / 4;
-    let few = case.first.iter().all(|words| *words <= LENT_WORDS) && case.book <= LENT_WORDS;
+    let verts = case.given.words[0] / 4;
+    let few = case.given.words.iter().all(|words| *words <= LENT_WORDS) && case.book <= LENT_WORDS;
     whole
         && few
-        && case.first == case.second
-        && case.first[1] == 3 * verts
+        && case.given.words == case.second
+        && case.given.words[1] == 3 * verts
         && (case.book % 4, case.sums, case.tallies) == (0, 4 * verts, 2 * verts)
 }
 
 /// What a case is a case of. A case that is refused at the door for another reason than what is wrong on purpose is of no class.
-fn class(drawn: &Drawn, answer: &Answer) -> Option<String> {
+fn class(drawn: &Drawn<Case>, answer: &Answer) -> Option<String> {
     let (case, number) = (&drawn.case, number(answer.ended));
     match (&drawn.damages[..], number) {
         (_, 9) => None,
         ([], 0) if case.depth > 4 => Some("a great depth".into()),
-        ([], 0) => Some(format!("depth {}, {}", case.depth, highest(&case.counts))),
+        ([], 0) => Some(format!(
+            "depth {}, {}",
+            case.depth,
+            highest(&case.given.counts)
+        )),
         ([], _) if answer.passes == 0 => Some(format!("{number} at once, {}", drawn.lending)),
         ([], _) => Some(format!("{number} after a pass, {}", drawn.lending)),
         ([damage], 5..=8) => Some(format!("{number}, {damage}")),
@@ -138,7 +145,7 @@ fn highest(sizes: &Sizes) -> &'static str {
 }
 
 fn text(case: &Case, handed: &Bench, answer: &Answer, expected: &Bench) -> String {
-    let kind = case.mesh.kind;
+    let kind = case.given.mesh.kind;
     let mut cells = Bench::cells(handed, kind).list().to_vec();
     cells.push(case.book / 4);
     format!(
@@ -147,8 +154,8 @@ fn text(case: &Case, handed: &Bench, answer: &Answer, expected: &Bench) -> Strin
         case.depth,
         case.smooth_time,
         line(&cells),
-        line(&case.counts.list()),
-        rows(kind, &case.counts, handed),
+        line(&case.given.counts.list()),
+        rows(kind, &case.given.counts, handed),
         number(answer.ended),
         answer.passes,
         line(&answer.sizes.list()),

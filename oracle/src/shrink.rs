@@ -1,61 +1,86 @@
 //! From a case that shows something to the smallest one nearby that shows it too.
-use crate::case::Case;
+use crate::case::{Case, Given};
 use reference::mesh::Mesh;
 use std::cmp::Ordering;
 
+/// What can be made smaller, step by step.
+pub trait Shrink: Sized {
+    /// Everything that is one step smaller.
+    fn smaller(&self) -> Vec<Self>;
+}
+
 /// Takes away whatever can go while `shows` still holds, until nothing can.
-pub fn smallest(mut case: Case, shows: &dyn Fn(&Case) -> bool) -> Case {
-    while let Some(smaller) = smaller(&case).into_iter().find(|c| shows(c)) {
+pub fn smallest<T: Shrink>(mut case: T, shows: &dyn Fn(&T) -> bool) -> T {
+    while let Some(smaller) = case.smaller().into_iter().find(|c| shows(c)) {
         case = smaller;
     }
     case
 }
 
-/// Every case that is one step smaller: less deep, an entry less, or a 0 where something else stands.
-fn smaller(case: &Case) -> Vec<Case> {
-    let mut found = vec![];
-    let mut step = |change: &dyn Fn(&mut Case)| {
-        let mut next = case.clone();
-        change(&mut next);
-        found.push(next);
-    };
-    if case.depth > 0 {
-        step(&|c| c.depth /= 2);
-        step(&|c| c.depth -= 1);
-    }
-    for (list, entries) in case.mesh.sizes().list()[..6].iter().enumerate() {
-        for i in (0..*entries).rev() {
-            step(&|c| without(c, &|m| remove(m, list, i)));
+/// Less deep, or on a smaller mesh.
+impl Shrink for Case {
+    fn smaller(&self) -> Vec<Case> {
+        let asked = |depth: u8, smooth_time: u8| Case {
+            depth,
+            smooth_time,
+            ..self.clone()
+        };
+        let mut found = vec![];
+        if self.depth > 0 {
+            found.push(asked(self.depth / 2, self.smooth_time));
+            found.push(asked(self.depth - 1, self.smooth_time));
         }
-    }
-    for i in 0..case.mesh.curves.len() {
-        if case.mesh.curves[i].verts.len() > 1 {
-            step(&|c| without(c, &|m| shorten(m, i)));
+        if self.smooth_time > 0 {
+            found.push(asked(self.depth, 0));
         }
+        found.extend(self.given.smaller().into_iter().map(|given| Case {
+            given,
+            ..self.clone()
+        }));
+        found
     }
-    for i in 0..case.patches.len() {
-        step(&|c| {
-            c.patches.remove(i);
-        });
+}
+
+/// An entry less, or a 0 where something else stands.
+impl Shrink for Given {
+    fn smaller(&self) -> Vec<Given> {
+        let mut found = vec![];
+        let mut step = |change: &dyn Fn(&mut Given)| {
+            let mut next = self.clone();
+            change(&mut next);
+            found.push(next);
+        };
+        for (list, entries) in self.mesh.sizes().list()[..6].iter().enumerate() {
+            for i in (0..*entries).rev() {
+                step(&|g| without(g, &|m| remove(m, list, i)));
+            }
+        }
+        for i in 0..self.mesh.curves.len() {
+            if self.mesh.curves[i].verts.len() > 1 {
+                step(&|g| without(g, &|m| shorten(m, i)));
+            }
+        }
+        for i in 0..self.patches.len() {
+            step(&|g| {
+                g.patches.remove(i);
+            });
+        }
+        if self.fill > 0 {
+            step(&|g| g.fill = 0);
+        }
+        for i in 0..self.mesh.verts.len() {
+            plainer(self, i, &mut step);
+        }
+        found
     }
-    if case.smooth_time > 0 {
-        step(&|c| c.smooth_time = 0);
-    }
-    if case.fill > 0 {
-        step(&|c| c.fill = 0);
-    }
-    for i in 0..case.mesh.verts.len() {
-        plainer(case, i, &mut step);
-    }
-    found
 }
 
 /// Something of the mesh goes, and the counts with it where they are its own; what is lent stays.
-fn without(case: &mut Case, change: &dyn Fn(&mut Mesh)) {
-    let stated = case.counts == case.mesh.sizes();
-    change(&mut case.mesh);
+fn without(given: &mut Given, change: &dyn Fn(&mut Mesh)) {
+    let stated = given.counts == given.mesh.sizes();
+    change(&mut given.mesh);
     if stated {
-        case.counts = case.mesh.sizes();
+        given.counts = given.mesh.sizes();
     }
 }
 
@@ -93,20 +118,20 @@ fn shorten(mesh: &mut Mesh, i: usize) {
 }
 
 /// A vertex with a 0 where it has something else.
-fn plainer(case: &Case, i: usize, step: &mut dyn FnMut(&dyn Fn(&mut Case))) {
-    let vertex = case.mesh.verts[i];
+fn plainer(given: &Given, i: usize, step: &mut dyn FnMut(&dyn Fn(&mut Given))) {
+    let vertex = given.mesh.verts[i];
     for axis in 0..4 {
         if vertex.bits[axis] != 0 {
-            step(&|c| c.mesh.verts[i].bits[axis] = 0);
+            step(&|g| g.mesh.verts[i].bits[axis] = 0);
         }
     }
     if vertex.flags != 0 {
-        step(&|c| c.mesh.verts[i].flags = 0);
+        step(&|g| g.mesh.verts[i].flags = 0);
     }
     if vertex.tag != 0 {
-        step(&|c| c.mesh.verts[i].tag = 0);
+        step(&|g| g.mesh.verts[i].tag = 0);
     }
     if vertex.k != 0 {
-        step(&|c| c.mesh.verts[i].k = 0);
+        step(&|g| g.mesh.verts[i].k = 0);
     }
 }

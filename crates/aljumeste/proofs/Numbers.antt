@@ -1,22 +1,28 @@
--- No refusal of a refinement is numbered 0, so that the exported number says the whole verdict; and the words that say an answer.
+-- No refusal is numbered 0, so that an exported number says the whole verdict; and the words that say an answer.
 -- Assumes nothing.
 use mathlib.Core.Path.{_≡_, refl, sym, _∙_, ap, subst}
 use mathlib.Core.Bool.{Bool, true, false, cond}
 use mathlib.Core.List.{List, [], _∷_}
 use Prim.Native.Nat.{ℕ, zero, suc}
+use lib.Ieee.{Float}
 use Rattle.geom.specs.declared.answer.Sizes.{Sizes}
 use Rattle.geom.specs.declared.answer.Ended.{Ended}
 use Rattle.geom.specs.declared.answer.Refined.{Refined}
-use Rattle.geom.specs.Answers.{Verdict, accepted, refused, verdictOf, Told, told, Due, firstDue}
+use Rattle.geom.specs.declared.answer.Answer.{Answer}
+use Rattle.geom.specs.Answers.{Verdict, accepted, refused, verdictOf, Told, told, Outcome, outcomeOf, Due, firstDue}
 use Rattle.geom.specs.Book.{Kind}
+use Rattle.geom.specs.Memory.{Bench}
+use Rattle.geom.specs.Mesh.{Mesh}
+use Rattle.geom.specs.Normals.{Shaded, shadedBy, shadingVerdict, shading3, shading4}
 use Rattle.geom.specs.Refinement.{Lent, State, Run, passOver, fits, runFrom, run, toldBy}
 use Rattle.geom.specs.Refusals.{Desk, handedIn, refinementVerdict, subdividedBy, subdivided, toldAfter}
+use Rattle.geom.specs.Triangulation.{Cuts, Triangulated, triangulationVerdict, triangulatedBy, triangulation}
 use Rattle.geom.proofs.Lists.{All}
 use Rattle.subdivision.specs.Entry.{Refines}
-use Rattle.aljumeste.specs.Told.{numberOf, Numbered, sizesFrom, toldOf}
+use Rattle.aljumeste.specs.Told.{verdictBy, numberOf, Numbered, sizesFrom, toldOf, outcomeFrom}
 
 -- what holds of both cases holds of the one that is taken
-either : {A : Type 0} (P : A → Type 0) (b : Bool) {x y : A} → P x → P y → P (cond b x y)
+pub either : {A : Type 0} (P : A → Type 0) (b : Bool) {x y : A} → P x → P y → P (cond b x y)
 either P true p q = p
 either P false p q = q
 
@@ -64,11 +70,12 @@ words r =
     ∷ r .sizes .«curve_vertices»
     ∷ []
 
-pub told-by : (r : Refined) {e : Ended} → r .ended ≡ e → Numbered (verdictOf (r .ended)) → toldOf (numberOf (verdictOf e)) (words r) ≡ told r
+pub number-by : {e f : Ended} → e ≡ f → Numbered (verdictOf e) → verdictBy (numberOf (verdictOf f)) ≡ verdictOf e
+number-by p n = ap (λ (x : Ended). verdictBy (numberOf (verdictOf x))) (sym p) ∙ n
+
+pub told-by : (r : Refined) (n : ℕ) → verdictBy n ≡ verdictOf (r .ended) → toldOf n (words r) ≡ told r
 unfolding told toldOf sizesFrom words
-told-by r e n =
-    ap (λ (x : Ended). toldOf (numberOf (verdictOf x)) (words r)) (sym e)
-    ∙ ap (λ (v : Verdict). record { passes = r .passes; sizes = r .sizes; verdict = v }) n
+told-by r n h = ap (λ (v : Verdict). record { passes = r .passes; sizes = r .sizes; verdict = v }) h
 
 -- the sizes as the words state them, and the answer as the words say it
 pub exported :
@@ -79,3 +86,67 @@ exported {kind} {s} {handed} {d} {after} {depth} {time} {t} {u} p q h =
     (λ (x : Sizes). Refines kind x d after depth time u)
     p
     (subst (λ (x : Told). Refines kind handed d after depth time x) (sym q) h)
+
+-- ---- triangulation
+
+cut-numbered : (s : Sizes) (b : Bench) (out : Cuts) → Numbered (triangulationVerdict s b out)
+unfolding triangulationVerdict handedIn
+cut-numbered s b out = first-numbered _ (refl, (refl, (refl, (refl, (refl, (refl, (refl, tt)))))))
+
+triangulated-numbered : (v : Verdict) (s : Sizes) (m : Mesh) (out : Cuts) → Numbered v → Numbered (triangulatedBy v s m out .outcome .verdict)
+triangulated-numbered accepted s m out n = n
+triangulated-numbered (refused k) s m out n = n
+
+pub triangulates-numbered : (a : Answer) (after : Cuts) (s : Sizes) (b : Bench) (out : Cuts)
+    → _≡_ {A = Triangulated} (record { outcome = outcomeOf a; out = after }) (triangulation s b out)
+    → Numbered (verdictOf (a .ended))
+unfolding triangulation outcomeOf
+triangulates-numbered a after s b out q =
+    subst
+    (λ (t : Triangulated). Numbered (t .outcome .verdict))
+    (sym q)
+    (triangulated-numbered (triangulationVerdict s b out) s _ out (cut-numbered s b out))
+
+-- the seven words of an answer
+unfoldable pub sizesWords : Sizes → List ℕ
+sizesWords s =
+    s .vertices ∷ s .points ∷ s .lines ∷ s .areas ∷ s .volumes ∷ s .curves ∷ s .«curve_vertices» ∷ []
+
+pub outcome-by : (a : Answer) (n : ℕ) → verdictBy n ≡ verdictOf (a .ended) → outcomeFrom n (sizesWords (a .sizes)) ≡ outcomeOf a
+unfolding outcomeOf outcomeFrom sizesFrom sizesWords
+outcome-by a n h = ap (λ (v : Verdict). record { sizes = a .sizes; verdict = v }) h
+
+pub exported-cut : (b : Bench) (before after : Cuts) (s handed : Sizes) (x y : Outcome) → handed ≡ s → y ≡ x
+    → _≡_ {A = Triangulated} (record { outcome = x; out = after }) (triangulation handed b before)
+    → _≡_ {A = Triangulated} (record { outcome = y; out = after }) (triangulation s b before)
+exported-cut b before after s handed x y p q h =
+    ap (λ (o : Outcome). record { outcome = o; out = after }) q ∙ h ∙ ap (λ (t : Sizes). triangulation t b before) p
+
+-- ---- normals
+
+shade-numbered : (width : ℕ) (s : Sizes) (b : Bench) (out : List Float) → Numbered (shadingVerdict width s b out)
+unfolding shadingVerdict handedIn
+shade-numbered width s b out = first-numbered _ (refl, (refl, (refl, (refl, (refl, (refl, (refl, tt)))))))
+
+shaded-numbered : (v : Verdict) (words out : List Float) → Numbered v → Numbered (shadedBy v words out .verdict)
+shaded-numbered accepted words out n = n
+shaded-numbered (refused k) words out n = n
+
+module _ (e : Ended) (after : List Float) (s : Sizes) (b : Bench) (out : List Float) where
+  pub shades3-numbered : _≡_ {A = Shaded} (record { verdict = verdictOf e; out = after }) (shading3 s b out) → Numbered (verdictOf e)
+  unfolding shading3
+  shades3-numbered q =
+      subst (λ (t : Shaded). Numbered (t .verdict)) (sym q) (shaded-numbered (shadingVerdict 3 s b out) _ out (shade-numbered 3 s b out))
+
+  pub shades4-numbered : _≡_ {A = Shaded} (record { verdict = verdictOf e; out = after }) (shading4 s b out) → Numbered (verdictOf e)
+  unfolding shading4
+  shades4-numbered q =
+      subst (λ (t : Shaded). Numbered (t .verdict)) (sym q) (shaded-numbered (shadingVerdict 4 s b out) _ out (shade-numbered 4 s b out))
+
+pub exported-shading : (shading : Sizes → Bench → List Float → Shaded) (b : Bench) (before after : List Float) (s handed : Sizes) (x y : Verdict)
+    → handed ≡ s
+    → y ≡ x
+    → _≡_ {A = Shaded} (record { verdict = x; out = after }) (shading handed b before)
+    → _≡_ {A = Shaded} (record { verdict = y; out = after }) (shading s b before)
+exported-shading shading b before after s handed x y p q h =
+    ap (λ (v : Verdict). record { verdict = v; out = after }) q ∙ h ∙ ap (λ (t : Sizes). shading t b before) p

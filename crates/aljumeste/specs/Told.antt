@@ -1,12 +1,14 @@
--- What the exported refinements say of lent words: the sizes that are handed in, and the answer that a number and eight words stand for.
--- Says nothing of when which answer is due (geom's Refusals, subdivision's Entry).
+-- What the exports say of lent words: the sizes that are handed in, and the answer that a number and words stand for.
+-- Says nothing of when which answer is due (geom's Refusals, Triangulation, Normals and File, subdivision's Entry).
 -- Assumes nothing.
 use mathlib.Core.Path.{_≡_}
 use mathlib.Core.List.{List}
 use Prim.Native.Nat.{ℕ, zero, suc, _+_}
 use lib.ListN.{getD}
 use Rattle.geom.specs.declared.answer.Sizes.{Sizes}
-use Rattle.geom.specs.Answers.{Verdict, accepted, refused, Told}
+use Rattle.geom.specs.Answers.{Verdict, accepted, refused, Told, Outcome, Judgement, meshOfKind, noMesh, Opening}
+use Rattle.geom.specs.Book.{cubes, simplices}
+use Rattle.geom.specs.File as File
 
 -- seven sizes, from a word on: vertices, points, lines, areas, volumes, curves, curve vertices
 unfoldable pub sizesFrom : ℕ → List ℕ → Sizes
@@ -34,6 +36,32 @@ numberOf (refused n) = n
 abbrev pub Numbered : Verdict → Type 0
 Numbered v = verdictBy (numberOf v) ≡ v
 
--- the answer: the passes are word 0, the sizes words 1 to 7
+-- a refinement's answer: the passes are word 0, the sizes words 1 to 7
 unfoldable pub toldOf : ℕ → List ℕ → Told
 toldOf number words = record { passes = getD words 0 0; sizes = sizesFrom 1 words; verdict = verdictBy number }
+
+-- the answer of triangulation: the sizes are the words
+unfoldable pub outcomeFrom : ℕ → List ℕ → Outcome
+outcomeFrom number words = record { sizes = sizesFrom 0 words; verdict = verdictBy number }
+
+-- how reading ended: 0 with a mesh, whose kind is a word, 0 cubes and 1 simplices; else the refusal's number
+abbrev pub judgementBy : ℕ → ℕ → Judgement
+judgementBy zero kind = meshOfKind (File.kindOf kind)
+judgementBy (suc n) kind = noMesh (suc n)
+
+abbrev pub refusalOf : Judgement → ℕ
+refusalOf (meshOfKind kind) = 0
+refusalOf (noMesh n) = n
+
+abbrev pub kindWord : Judgement → ℕ
+kindWord (meshOfKind cubes) = 0
+kindWord (meshOfKind simplices) = 1
+kindWord (noMesh n) = 0
+
+-- the two say the whole judgement
+abbrev pub Worded : Judgement → Type 0
+Worded j = judgementBy (refusalOf j) (kindWord j) ≡ j
+
+-- the answer of reading: the kind is word 0, the sizes words 1 to 7
+unfoldable pub openingFrom : ℕ → List ℕ → Opening
+openingFrom number words = record { sizes = sizesFrom 1 words; judgement = judgementBy number (getD words 0 0) }

@@ -1,6 +1,10 @@
-// What other languages link: the square root and normalising, section 1 of document 01, and the refinements. The static library defines
-// each function under its own name, which begins with the crate's. None has a `requires`: every input is answered.
+// What other languages link: the square root and normalising, section 1 of document 01, and the entries of the engine. The static library
+// defines each function under its own name, which begins with the crate's. None has a `requires`: every input is answered.
+pub mod opening;
 pub mod refinement;
+pub mod shading;
+pub mod triangles;
+pub mod words;
 
 ghost use mathlib.Core.Path.{_≡_};
 ghost use Rattle.numbers.specs.Root as Root;

@@ -6,26 +6,11 @@ ghost use Rattle.geom.specs.Book.{cubes, simplices};
 ghost use Rattle.judge.specs.Judged.{bench};
 ghost use Rattle.subdivision.specs.Entry.{desk, Refines};
 ghost use Rattle.aljumeste.specs.Told.{sizesFrom, Numbered, toldOf};
-use geom::answer::Ended;
+use crate::words::number;
+use crate::words::stated;
 use geom::answer::Refined;
-use geom::answer::Sizes;
 use geom::kind::Kind;
 use subdivision::subdivide;
-
-// The sizes that seven words state.
-fn stated(words: &[usize; 7]) -> Sizes
-    ensures { λ r. ⌜ r ≡ sizesFrom 0 (now (words .entry)) ⌝ }
-{
-    Sizes {
-        vertices: words[0],
-        points: words[1],
-        lines: words[2],
-        areas: words[3],
-        volumes: words[4],
-        curves: words[5],
-        curve_vertices: words[6],
-    }
-}
 
 // Writes an answer as eight words, the passes and the sizes, and gives the number: 0 when finished, else the refusal's.
 fn tell(r: Refined, answer: &mut [usize; 8]) -> u8
@@ -44,10 +29,7 @@ fn tell(r: Refined, answer: &mut [usize; 8]) -> u8
         sizes.curve_vertices,
     ];
     let ended = r.ended;
-    match ended {
-        Ended::Finished => 0,
-        Ended::Refused(number) => number,
-    }
+    number(ended)
 }
 
 // The refinement of simplices: the words of two benches, of the book and of smoothing, the sizes handed in, the depth and the smooth_time

@@ -124,7 +124,7 @@ module _ (k : ℕ) (p : Parity) (points table axes : List ℕ) (from : ℕ) wher
 
 -- ── the pieces of a table ──
 
-pieces-append :
+pub pieces-append :
     (axes : List (List Pair)) (p : Parity) (points : List ℕ) (xs ys : List Row)
     → pieces axes p points (xs ++ ys) ≡ pieces axes p points xs ++ pieces axes p points ys
 unfolding pieces

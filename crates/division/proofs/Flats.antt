@@ -136,13 +136,13 @@ or-assoc : (a b c : Bool) → (a || (b || c)) ≡ ((a || b) || c)
 or-assoc true b c = refl
 or-assoc false b c = refl
 
-flat-snoc : (cs : List ℕ) (xs : List (List Pair)) (a : List Pair) → flat (xs ++ a ∷ []) cs ≡ (flat xs cs || shut cs a)
+pub flat-snoc : (cs : List ℕ) (xs : List (List Pair)) (a : List Pair) → flat (xs ++ a ∷ []) cs ≡ (flat xs cs || shut cs a)
 unfolding flat
 flat-snoc cs [] a = or-false (shut cs a)
 flat-snoc cs (b ∷ xs) a = ap (λ (t : Bool). shut cs b || t) (flat-snoc cs xs a) ∙ or-assoc (shut cs b) (flat xs cs) (shut cs a)
 
 -- one axis along which all is closed
-flat-along : (cs : List ℕ) (a : ℕ → List Pair) (i n : ℕ) → i < n → shut cs (a i) ≡ true → flat (firstOf a n) cs ≡ true
+pub flat-along : (cs : List ℕ) (a : ℕ → List Pair) (i n : ℕ) → i < n → shut cs (a i) ≡ true → flat (firstOf a n) cs ≡ true
 unfolding firstOf
 flat-along cs a i zero l f = absurd (omega arith)
 flat-along cs a i (suc n) l f =

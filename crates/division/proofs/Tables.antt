@@ -1,21 +1,14 @@
--- Tables of places and words of parities.
+-- Tables of places.
 -- Assumes nothing.
-use mathlib.Core.Path.{_≡_, refl}
+use mathlib.Core.Path.{_≡_}
 use mathlib.Core.Bool.{true}
 use mathlib.Core.List.{List, [], _∷_}
 use Prim.Native.Nat.{ℕ, zero, suc, _<_}
 use native.Mathlib.Omega.{arith}
 use lib.Dec.{ltb}
 use lib.ListN.{length, getD}
-use Rattle.geom.specs.Memory.{parityOf}
-use Rattle.geom.specs.declared.parity.Parity.the-variants.{Odd}
 use Rattle.geom.proofs.Lists.{below-number, and-true-left, and-true-right}
 use Rattle.division.specs.Shapes.{below}
-
--- any word but 0 is odd
-pub parity-odd : (n : ℕ) → (n ≡ 0 → ⊥) → Odd ≡ parityOf n
-parity-odd zero ne = absurd (ne refl)
-parity-odd (suc n) ne = refl
 
 -- each place of a table is below the bound
 pub below-at : (n : ℕ) (xs : List ℕ) → below n xs ≡ true → (i : ℕ) → i < length xs → getD xs i 0 < n

@@ -115,7 +115,7 @@ one-places rows words total i l =
 abbrev pub curveIn : List ℕ → List ℕ → ℕ → Curve
 curveIn rows words i = curveAt rows words (startOf rows i) i
 
-curves-places :
+pub curves-places :
     (rows words : List ℕ) (total n : ℕ) → startOf rows n ≤ total
     → curvesOf (firstOf (curveRow rows) n) (firstOf (stepRow words) total) ≡ firstOf (curveIn rows words) n
 unfolding firstOf curvesOf

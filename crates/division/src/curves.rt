@@ -16,11 +16,11 @@ ghost use Rattle.division.specs.Threads.{threadTo, Threaded, curveAt, cu
 use crate::Written;
 use crate::elements::Grown;
 use crate::elements::middle;
-use crate::elements::parity_of;
-use crate::elements::word_of;
 use book::Asked;
 use geom::kind::Kind;
 use geom::parity::Parity;
+use geom::words::parity_of;
+use geom::words::word_of;
 
 // Writes a row of two words.
 fn put(new: &mut [u32], row: usize, first: u32, second: u32)

@@ -20,6 +20,8 @@ use crate::Written;
 use book::Asked;
 use geom::kind::Kind;
 use geom::parity::Parity;
+use geom::words::parity_of;
+use geom::words::word_of;
 
 // What the midpoints of an element's edges end with: the book's entries so far, or that there is no room for one more.
 pub enum Grown {
@@ -31,26 +33,6 @@ pub enum Grown {
 pub enum Filled {
     Rows(usize),
     Full,
-}
-
-// The parity that a word stands for: 0 even, 1 odd.
-pub fn parity_of(word: u32) -> Parity
-    ensures { λ r. ⌜ r ≡ parityOf word ⌝ }
-{
-    if word == 0 {
-        return Parity::Even;
-    }
-    Parity::Odd
-}
-
-// The word of a parity.
-pub fn word_of(parity: Parity) -> u32
-    ensures { λ r. ⌜ r ≡ parityWord parity ⌝ }
-{
-    match parity {
-        Parity::Even => 0,
-        Parity::Odd => 1,
-    }
 }
 
 // Copies `count` words of the old list to the first points.
@@ -67,7 +49,7 @@ fn load(old: &[u32], from: usize, count: usize, points: &mut [u32])
 }
 
 // The point at a place of a table.
-fn point_at(points: &[u32], table: &[usize], at: usize) -> u32
+pub fn point_at(points: &[u32], table: &[usize], at: usize) -> u32
     requires { ⌜ at < length (now table) ⌝ }
     requires { ⌜ getD (now table) at 0 < length (now points) ⌝ }
     ensures { λ r. ⌜ r ≡ pointAt (now (points .entry)) (getD (now (table .entry)) at 0) ⌝ }
@@ -76,7 +58,7 @@ fn point_at(points: &[u32], table: &[usize], at: usize) -> u32
 }
 
 // Writes the corners of one piece: the points at the places of a row of the table.
-fn piece(points: &[u32], table: &[usize], from: usize, count: usize, new: &mut [u32], at: usize)
+pub fn piece(points: &[u32], table: &[usize], from: usize, count: usize, new: &mut [u32], at: usize)
     requires { ⌜ below (length (now points)) (now table) ≡ true ⌝ }
     requires { ⌜ from + count ≤ length (now table) ⌝ }
     requires { ⌜ at + count ≤ length (now new) ⌝ }
@@ -90,7 +72,7 @@ fn piece(points: &[u32], table: &[usize], from: usize, count: usize, new: &mut [
 }
 
 // The parity of a piece: flipped where the table's word is not 0.
-fn turned(flip: usize, parity: Parity) -> Parity
+pub fn turned(flip: usize, parity: Parity) -> Parity
     ensures { λ r. ⌜ r ≡ times (parityOf flip) parity ⌝ }
 {
     if flip == 0 {

@@ -12,9 +12,9 @@ use crate::Written;
 use crate::elements::Filled;
 use crate::elements::assemble;
 use crate::elements::middle;
-use crate::elements::parity_of;
 use book::Asked;
 use geom::kind::Kind;
+use geom::words::parity_of;
 
 // Line [a,b] with the vertex v at place 2: [a,v], [v,b] of the same parity.
 const LINE_PIECES: [usize; 6] = [0, 2, 0, 2, 1, 0];

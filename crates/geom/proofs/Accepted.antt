@@ -1,8 +1,8 @@
 -- What the acceptance of a mesh in memory gives: its lists are Well, as demand 3 asks, over the vertices handed in.
 -- Assumes nothing.
-use mathlib.Core.Path.{_≡_, refl, subst}
+use mathlib.Core.Path.{_≡_, refl, sym, _∙_, ap, subst}
 use mathlib.Core.Bool.{Bool, true, false, not, _&&_, cond}
-use mathlib.Core.List.{List, [], _∷_, map}
+use mathlib.Core.List.{List, [], _∷_, _++_, map}
 use Prim.Native.Nat.{ℕ, zero, suc, _*_, _/_, _≤_, _<_}
 use native.Mathlib.Nat.{le-div-iff-mul-le, suc-mul, mul-comm, zero-lt-suc}
 use native.Mathlib.Omega.{arith}
@@ -10,10 +10,12 @@ use lib.Dec.{T, eqb, leb, leb→le, ltb→lt}
 use lib.Ieee.Fits.{and-l, and-r}
 use lib.ListN.{length, take, drop, length-take, length-drop}
 use Rattle.geom.specs.declared.answer.Sizes.{Sizes}
+use Rattle.geom.specs.declared.answer.Ended.{Ended}
+use Rattle.geom.specs.declared.answer.Ended.the-variants.{Finished}
 use Rattle.geom.specs.Book.{Kind, cubes, simplices}
 use Rattle.geom.specs.Elements.{Curve}
 use Rattle.geom.specs.Ledger.{faceShape, volumeShape}
-use Rattle.geom.specs.Answers.{accepted, refused, Due, firstDue}
+use Rattle.geom.specs.Answers.{Verdict, accepted, refused, verdictOf, Due, firstDue}
 use Rattle.geom.specs.Memory.{Bench, cells, ElementRow, CurveRow, StepRow, Rows, firstOf, elementRow, rowsOf, areaCorners, volumeCorners, elementOf, curvesOf, meshOf}
 use Rattle.geom.specs.Refinement.{within}
 use Rattle.geom.specs.Refusals.{every, goodParity, goodNumber, curveLengths, countsHold, numbersHold, handedIn, Desk, benchesHold, refinementVerdict}
@@ -32,6 +34,32 @@ none-due (d ∷ ds) e = go (none-due ds) (d .due) refl e
         → cond b (refused (d .number)) (firstDue ds) ≡ accepted → All (λ (d : Due). d .due ≡ false) (d ∷ ds)
     go rest true q f = let z : _≡_ {A = ℕ} 0 1 = cc in absurd (omega arith)
     go rest false q f = (q, rest f)
+
+-- of one list of refusals and then of another: a refusal among the first stays the first, and where none is due there the rest decides
+pub refused-before : (ds es : List Due) (n : ℕ) → firstDue ds ≡ refused n → firstDue (ds ++ es) ≡ refused n
+unfolding firstDue
+refused-before [] es n e = let z : _≡_ {A = ℕ} 0 1 = cc in absurd (omega arith)
+refused-before (d ∷ ds) es n e = go (refused-before ds es n) (d .due) e
+  where
+    go : (firstDue ds ≡ refused n → firstDue (ds ++ es) ≡ refused n) → (b : Bool)
+        → cond b (refused (d .number)) (firstDue ds) ≡ refused n → cond b (refused (d .number)) (firstDue (ds ++ es)) ≡ refused n
+    go rest true q = q
+    go rest false q = rest q
+
+pub accepted-before : (ds es : List Due) → firstDue ds ≡ accepted → firstDue (ds ++ es) ≡ firstDue es
+unfolding firstDue
+accepted-before [] es e = refl
+accepted-before (d ∷ ds) es e = go (accepted-before ds es) (d .due) e
+  where
+    go : (firstDue ds ≡ accepted → firstDue (ds ++ es) ≡ firstDue es) → (b : Bool)
+        → cond b (refused (d .number)) (firstDue ds) ≡ accepted → cond b (refused (d .number)) (firstDue (ds ++ es)) ≡ firstDue es
+    go rest true q = let z : _≡_ {A = ℕ} 0 1 = cc in absurd (omega arith)
+    go rest false q = rest q
+
+-- the judge found nothing
+pub accepted-by : {ended : Ended} {v : Verdict} → verdictOf ended ≡ v → ended ≡ Finished → v ≡ accepted
+unfolding verdictOf
+accepted-by j e = sym j ∙ ap verdictOf e
 
 holds : (b : Bool) → not b ≡ false → T b
 holds true e = tt

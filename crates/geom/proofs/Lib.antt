@@ -3,6 +3,7 @@ pub mod Marked
 -- Demand 3 over the definitions, from the ground up; the claims for any number of passes are in Demand3,
 pub mod Lists
 pub mod Rows
+pub mod Stated
 pub mod Integers
 pub mod Sums
 pub mod Spread

@@ -8,7 +8,8 @@ use native.Mathlib.Nat.{eq-or-lt-of-le}
 use native.Mathlib.Omega.{arith}
 use lib.ListN.{length, getD, length-append, List·getD-append}
 use lib.Seq.{getD-at}
-use Rattle.geom.specs.Memory.{firstOf}
+use Rattle.geom.specs.declared.parity.Parity.the-variants.{Odd}
+use Rattle.geom.specs.Memory.{firstOf, parityOf}
 
 pub length-firstOf : {A : Type 0} (at : ℕ → A) (n : ℕ) → length (firstOf at n) ≡ n
 unfolding firstOf
@@ -55,3 +56,8 @@ pub getD-any : {A : Type 0} (l : List A) (i : ℕ) (d e : A) → i < length l �
 getD-any [] i d e h = absurd (omega arith)
 getD-any (x ∷ l) zero d e h = refl
 getD-any (x ∷ l) (suc i) d e h = getD-any l i d e (omega arith)
+
+-- any word but 0 is odd
+pub parity-odd : (n : ℕ) → (n ≡ 0 → ⊥) → Odd ≡ parityOf n
+parity-odd zero ne = absurd (ne refl)
+parity-odd (suc n) ne = refl

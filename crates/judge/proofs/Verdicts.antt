@@ -12,7 +12,7 @@ use lib.ListN.{length}
 use borrow.Author.Tests.{leb-true, eqb-true}
 use Rattle.geom.specs.declared.answer.Sizes.{Sizes}
 use Rattle.geom.specs.declared.vertex.Vertex.{Vertex}
-use Rattle.geom.specs.Answers.{accepted, refused, firstDue}
+use Rattle.geom.specs.Answers.{Verdict, accepted, refused, firstDue}
 use Rattle.geom.specs.Book.{Kind, cubes, simplices}
 use Rattle.geom.specs.Memory.{Bench, areaCorners, volumeCorners, ElementRow, StepRow, Rows, cells, firstOf, elementRow, curveRow, rowsOf, stepWords, curveParts}
 use Rattle.geom.specs.Refinement.{LIMITS, within}
@@ -189,17 +189,24 @@ module _ (kind : Kind) (first second : Lengths) (sums tallies : ℕ) (here there
     benches-all z m h = rw (test, q, back, z, h, e) refl
 
 -- the verdict of a desk, from what the judge is told of it
-pub told : (kind : Kind) (s : Sizes) (time : ℕ) (first : Bench) (second : Lengths) (sums tallies : ℕ) (d : Desk) → d .first ≡ first
+pub told : (kind : Kind) (s : Sizes) (time : ℕ) (first : Bench) (second : Lengths) (sums tallies : ℕ) (nine : Bool)
+    → nine ≡ benchesOf kind (lengthsOf first) second sums tallies
+    → (v : Verdict)
+    → v ≡ firstDue (handedIn nine (goodParity time) kind s first)
+    → (d : Desk)
+    → d .first ≡ first
     → Measured d second sums tallies
-    → refinementVerdict kind s d time ≡ firstDue (handedIn (benchesOf kind (lengthsOf first) second sums tallies) (goodParity time) kind s first)
+    → v ≡ refinementVerdict kind s d time
 unfolding refinementVerdict
-told kind s time first second sums tallies d e m =
-    ap₂ (λ (nine : Bool) (b : Bench). firstDue (handedIn nine (goodParity time) kind s b))
+told kind s time first second sums tallies nine q v h d e m =
+    h
+    ∙ sym (ap₂ (λ (nine : Bool) (b : Bench). firstDue (handedIn nine (goodParity time) kind s b))
     (benches-lengths kind d
     ∙ ap (λ (b : Bench). benchesOf kind (lengthsOf b) (lengthsOf (d .second)) (length (d .sums)) (length (d .tallies))) e
     ∙ ap (λ (l : Lengths). benchesOf kind (lengthsOf first) l (length (d .sums)) (length (d .tallies))) (m .bench)
-    ∙ ap₂ (benchesOf kind (lengthsOf first) second) (m .sum) (m .tally))
-    e
+    ∙ ap₂ (benchesOf kind (lengthsOf first) second) (m .sum) (m .tally)
+    ∙ sym q)
+    e)
 
 -- ---- marks and numbers, list by list; a test that was not made stands for itself
 

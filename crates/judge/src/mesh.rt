@@ -4,10 +4,10 @@ ghost use mathlib.Core.List.{List};
 ghost use Prim.Native.Nat.{ℕ};
 ghost use lib.Ieee.{Float};
 ghost use lib.ListN.{length};
-ghost use Rattle.geom.specs.Answers.{verdictOf};
+ghost use Rattle.geom.specs.Answers.{verdictOf, firstDue};
 ghost use Rattle.geom.specs.Kinds.{kindOf};
 ghost use Rattle.geom.specs.Memory.{Bench, rowsOf};
-ghost use Rattle.geom.specs.Refusals.{Desk, marksHold, numbersHold, countsHold, refinementVerdict};
+ghost use Rattle.geom.specs.Refusals.{Desk, marksHold, numbersHold, countsHold, handedIn, refinementVerdict};
 ghost use Rattle.judge.specs.Counts.{lengthsOf};
 ghost use Rattle.judge.specs.Judged.{bench, Measured, Marked, Numbered};
 use crate::counts::Lengths;
@@ -100,8 +100,63 @@ pub fn numbers_hold(
     steps_hold(steps, sizes.curve_vertices, count)
 }
 
-// The refusal that is due before the first pass, at depth 0 too: any words, any sizes, slices of any lengths. The slices are those of the first
-// bench; of the second bench and of smoothing's cells the lengths are enough.
+// The refusal that is due for a mesh in memory: any words, any sizes, slices of any lengths. What an entry asks beyond this at 9 and at 5 is
+// told: `nine` and `five` say whether it holds.
+pub fn handed_in(
+    kind: Kind,
+    sizes: Sizes,
+    positions: &[f32],
+    marks: &[u32],
+    points: &[u32],
+    lines: &[u32],
+    areas: &[u32],
+    volumes: &[u32],
+    curves: &[u32],
+    steps: &[u32],
+    nine: bool,
+    five: bool,
+) -> Ended
+    ensures { λ r. ⌜ verdictOf r ≡ firstDue (handedIn nine five (kindOf kind) sizes (bench (now (positions .entry)) (now (marks .entry)) (now (points .entry)) (now (lines .entry)) (now (areas .entry)) (now (volumes .entry)) (now (curves .entry)) (now (steps .entry)))) ⌝ }
+{
+    let lent = Lengths {
+        positions: positions.len(),
+        marks: marks.len(),
+        points: points.len(),
+        lines: lines.len(),
+        areas: areas.len(),
+        volumes: volumes.len(),
+        curves: curves.len(),
+        curve_vertices: steps.len(),
+    };
+    if !counts_hold(kind, sizes, lent, curves) {
+        return Ended::Refused(9);
+    }
+    if !nine {
+        return Ended::Refused(9);
+    }
+    if !marks_hold(kind, sizes, marks, lines, areas, volumes, curves, steps) {
+        return Ended::Refused(5);
+    }
+    if !five {
+        return Ended::Refused(5);
+    }
+    if !positions_hold(positions, sizes.vertices) {
+        return Ended::Refused(6);
+    }
+    if !numbers_hold(kind, sizes, points, lines, areas, volumes, steps) {
+        return Ended::Refused(7);
+    }
+    if !curves_hold(curves, sizes.curves) {
+        return Ended::Refused(8);
+    }
+    if !limits_hold(sizes) {
+        return Ended::Refused(10);
+    }
+    Ended::Finished
+}
+
+// The refusal that is due before the first pass of a refinement, at depth 0 too. The slices are those of the first bench; of the second bench
+// and of smoothing's cells the lengths are enough.
 pub fn judge(
     kind: Kind,
     sizes: Sizes,
@@ -130,29 +185,19 @@ pub fn judge(
         curves: curves.len(),
         curve_vertices: steps.len(),
     };
-    if !counts_hold(kind, sizes, first, curves) {
-        return Ended::Refused(9);
-    }
-    if !benches_hold(kind, first, second, sums, tallies) {
-        return Ended::Refused(9);
-    }
-    if !marks_hold(kind, sizes, marks, lines, areas, volumes, curves, steps) {
-        return Ended::Refused(5);
-    }
-    if 1 < time {
-        return Ended::Refused(5);
-    }
-    if !positions_hold(positions, sizes.vertices) {
-        return Ended::Refused(6);
-    }
-    if !numbers_hold(kind, sizes, points, lines, areas, volumes, steps) {
-        return Ended::Refused(7);
-    }
-    if !curves_hold(curves, sizes.curves) {
-        return Ended::Refused(8);
-    }
-    if !limits_hold(sizes) {
-        return Ended::Refused(10);
-    }
-    Ended::Finished
+    let nine = benches_hold(kind, first, second, sums, tallies);
+    handed_in(
+        kind,
+        sizes,
+        positions,
+        marks,
+        points,
+        lines,
+        areas,
+        volumes,
+        curves,
+        steps,
+        nine,
+        time <= 1,
+    )
 }

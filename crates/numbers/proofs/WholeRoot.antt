@@ -1,8 +1,8 @@
 -- The whole part of a square root: `wholeRoot n` squared is at most n, and the next number squared is above it, and no other number is so. Nothing here is about
 -- floats. Assumes nothing.
-use mathlib.Core.Path.{_≡_, refl, subst}
+use mathlib.Core.Path.{_≡_, refl}
 use mathlib.Core.Bool.{Bool, true, false, cond, not}
-use Prim.Native.Nat.{ℕ, zero, suc, _+_, _-_, _*_, _/_, _^_, _≤_, _<_}
+use Prim.Native.Nat.{ℕ, zero, suc, _+_, _*_, _/_, _^_, _≤_, _<_}
 use native.Mathlib.Nat.{le-antisymm, lt-of-not-le, not-le-of-lt, lt-of-lt-of-le, lt-of-le-of-lt, mul-le-mul, mul-assoc, mul-left-comm, pow-suc, add-zero, le-mul-of-pos-right}
 use native.Mathlib.Omega.{arith}
 use lib.Dec.{T, leb, leb→le, nleb→lt, lit<}
@@ -62,34 +62,24 @@ unfolding wholeRoot
 whole-root n =
     digits-are (size n) n (rw four-power (lt-of-lt-of-le (size-lt n) (le-mul-of-pos-right (2 ^ size n) (pow-pos (size n)))))
 
--- ---- the root between two numbers, for a search that halves the width
+-- ---- the root as the last number whose square is not above n
 
-pub record Between (n low width : ℕ) : Type 0 where
-  pub below : low * low ≤ n
-  pub above : n < (low + width) * (low + width)
-  pub some : 1 ≤ width
-  pub small : low + width ≤ 2 ^ 25
+pub product-fits : {a b : ℕ} → a < 2 ^ 32 → b < 2 ^ 32 → a * b < 2 ^ 64
+product-fits {a} {b} h g =
+    let l : a ≤ 0xFFFF_FFFF = omega arith in
+    let m : b ≤ 0xFFFF_FFFF = omega arith in
+    lt-of-le-of-lt (mul-le-mul l m) (lit< tt)
 
-pub between-start : (n : ℕ) → n < 2 ^ 50 → Between n 0 (2 ^ 25)
-between-start n h = record { below = omega arith; above = h; some = omega arith; small = omega arith }
+pub not-zero : {n q : ℕ} → n < q * q → 0 < q
+not-zero {n} h = let z : 0 * 0 ≤ n = omega arith in square-lt (lt-of-le-of-lt z h)
 
-module _ {n low width : ℕ} (b : Between n low width) where
-  pub middle-fits : (low + width / 2) * (low + width / 2) < 2 ^ 64
-  middle-fits =
-      let m : low + width / 2 ≤ 2 ^ 25 = omega (arith, b .small) in
-      lt-of-le-of-lt (square-le m) (lit< tt)
+-- q is not above the root of an n below 2 ^ 50
+pub record NotAbove (n q : ℕ) : Type 0 where
+  pub below : q * q ≤ n
+  pub small : q < 2 ^ 25
 
-  pub upper-half : (low + width / 2) * (low + width / 2) ≤ n → Between n (low + width / 2) (width - width / 2)
-  upper-half h =
-      let e : low + width / 2 + (width - width / 2) ≡ low + width = omega arith in
-      record { below = h; above = rw e (b .above); some = omega (arith, b .some); small = rw e (b .small) }
+pub not-above : {n q : ℕ} → n < 2 ^ 50 → q * q ≤ n → NotAbove n q
+not-above h l = record { below = l; small = square-lt (lt-of-le-of-lt l h) }
 
-  pub lower-half : n < (low + width / 2) * (low + width / 2) → Between n low (width - width / 2)
-  lower-half h =
-      let m : low + width / 2 ≤ low + (width - width / 2) = omega arith in
-      record { below = b .below; above = lt-of-lt-of-le h (square-le m); some = omega (arith, b .some); small = omega (arith, b .small) }
-
-  pub between-done : width ≤ 1 → low ≡ wholeRoot n
-  between-done h =
-      let one : width ≡ 1 = omega (arith, b .some) in
-      whole-root-unique (record { below = b .below; above = subst (λ (k : ℕ). n < (low + k) * (low + k)) one (b .above) }) (whole-root n)
+pub last-is-root : {n q : ℕ} → NotAbove n q → n < (q + 1) * (q + 1) → q ≡ wholeRoot n
+last-is-root l h = whole-root-unique (record { below = l .below; above = h }) (whole-root _)

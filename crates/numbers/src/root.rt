@@ -64,19 +64,51 @@ fn root_pattern(digits: u32, weight: u32) -> u32
     (half + 1) * FIELD + (rounded as u32)
 }
 
-// The whole part of the square root of n, digit by digit from the highest: the root lies from low on, and below low + width.
+// The whole part of the square root of n: the guess is stepped down and then up to it. The squares alone decide, so the guess may be
+// anything: a poor one costs steps, and never the answer.
 fn whole_root(n: u64) -> u64
     requires { ⌜ n < 2 ^ 50 ⌝ }
     ensures { λ r. ⌜ (r ≡ Root.wholeRoot n) × (r < 2 ^ 25) ⌝ }
 {
-    let mut low: u64 = 0;
-    let mut width: u64 = 0x0200_0000;
-    while 1 < width {
-        let middle = low + width / 2;
-        if middle * middle <= n {
-            low = middle;
-        }
-        width -= width / 2;
+    let mut low = not_above(n, guess(n));
+    while (low + 1) * (low + 1) <= n {
+        low += 1;
     }
     low
+}
+
+// The first number from start down whose square is not above n.
+fn not_above(n: u64, start: u32) -> u64
+    ensures { λ r. ⌜ r * r ≤ n ⌝ }
+{
+    let mut low = start as u64;
+    while n < low * low {
+        low -= 1;
+    }
+    low
+}
+
+// A guess at the whole part of the square root of n. Where n has 49 or 50 digits it is right but for about one time in 40, and then
+// one off. With m for n / 2 ^ 50, r comes near 1 / root(m) and s near root(m), both in units of 2 ^ -31. r begins as a line of m, and
+// a step multiplies both by (3 - r * s) / 2, which leaves 3 / 2 of the square of their error. After the first step all errors have
+// one sign, so there a little more than 3 is taken. Differences are modulo 2 ^ 32.
+fn guess(n: u64) -> u32
+    requires { ⌜ n < 2 ^ 50 ⌝ }
+{
+    let m = (n / 0x0004_0000) as u32;
+    let r0 = std::num::wrapping_sub_u32(0x0D00_0000, upper_half(m, 0x9880_0000));
+    let s0 = upper_half(m, r0);
+    let by0 = std::num::wrapping_sub_u32(0xC090_0000, upper_half(r0, s0));
+    let r1 = upper_half(r0, by0) << 1;
+    let s1 = upper_half(s0, by0) << 1;
+    let by1 = std::num::wrapping_sub_u32(0xC000_0000, upper_half(r1, s1));
+    let r2 = upper_half(r1, by1) << 1;
+    let s2 = upper_half(s1, by1) << 1;
+    let by2 = std::num::wrapping_sub_u32(0xC000_0000, upper_half(r2, s2));
+    upper_half(s2, by2) / 32
+}
+
+// The upper 32 digits of the product of two numbers of 32.
+fn upper_half(a: u32, b: u32) -> u32 {
+    (((a as u64) * (b as u64)) / 0x1_0000_0000) as u32
 }

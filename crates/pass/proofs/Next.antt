@@ -16,8 +16,9 @@ use Rattle.geom.specs.Rules.{curveFrom, curve, Went, passBy}
 use Rattle.geom.specs.Vertices.{pairVertex}
 use Rattle.geom.specs.Smoothing.{withMidpoints, settledFrom, smoothed}
 use Rattle.geom.specs.Mesh.{curveVertices, sizesOf}
-use Rattle.geom.specs.Memory.{Bench, CurveRow, StepRow, firstOf, vertexRow, curveRow, stepRow, curvesOf, rowsOf, meshOf}
+use Rattle.geom.specs.Memory.{Bench, firstOf, vertexRow, curveRow, stepRow, rowsOf, meshOf}
 use Rattle.geom.specs.Refinement.{State, passOver, fits}
+use Rattle.geom.proofs.Stated.{length-rows}
 use Rattle.geom.proofs.Left.{went}
 use Rattle.geom.proofs.Books.{Grown}
 use Rattle.geom.proofs.Well.{pass-is, pass-grows}
@@ -52,11 +53,6 @@ length-curves kind base (c ∷ cs) book =
     one : (vs : List ℕ) → length (curveFrom kind base book c vs .made) ≡ 1
     one [] = refl
     one (u ∷ ws) = refl
-
-pub length-rows : (cs : List CurveRow) (rs : List StepRow) → length (curvesOf cs rs) ≡ length cs
-unfolding curvesOf
-length-rows [] rs = refl
-length-rows (c ∷ cs) rs = ap suc (length-rows cs (drop (c .count) rs))
 
 -- ---- the next state
 

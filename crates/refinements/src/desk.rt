@@ -1,96 +1,13 @@
 // A case is laid on a desk of the program's own, larger than what it lends, and the entry is called on as much of each slice as the case lends.
-ghost use Prim.Native.Nat.{_≤_};
-ghost use Rattle.refinements.specs.Parts.{Within};
-use crate::head::Apart;
 use crate::head::Case;
-use crate::head::area_words;
-use crate::head::given;
-use crate::head::volume_words;
-use crate::words::lay;
-use crate::words::lay_vertices;
+use cases::bench::cut;
+use cases::bench::cut_numbers;
+use cases::bench::lent_of;
+use cases::bench::widths;
+use cases::head::Apart;
+use cases::head::given;
 use geom::answer::Refined;
 use subdivision::subdivide;
-
-// How many words of each slice of a bench are lent.
-struct Words {
-    positions: usize,
-    marks: usize,
-    points: usize,
-    lines: usize,
-    areas: usize,
-    volumes: usize,
-    curves: usize,
-    steps: usize,
-}
-
-// A slice's words: what its cells take, or the length that the case gives it apart.
-fn lent_of(apart: Apart, slice: usize, usual: usize) -> usize {
-    if apart.slice == slice {
-        return apart.words;
-    }
-    usual
-}
-
-// The words of a bench whose first slice is number `slice`.
-fn widths(case: Case, apart: Apart, slice: usize) -> Words
-    requires { ⌜ slice ≤ 9 ⌝ }
-{
-    let lent = case.lent;
-    let kind = case.kind;
-    Words {
-        positions: lent_of(apart, slice, 4 * given(lent.vertices)),
-        marks: lent_of(apart, slice + 1, 3 * given(lent.vertices)),
-        points: lent_of(apart, slice + 2, given(lent.points)),
-        lines: lent_of(apart, slice + 3, 3 * given(lent.lines)),
-        areas: lent_of(apart, slice + 4, area_words(kind, given(lent.areas))),
-        volumes: lent_of(apart, slice + 5, volume_words(kind, given(lent.volumes))),
-        curves: lent_of(apart, slice + 6, 2 * given(lent.curves)),
-        steps: lent_of(apart, slice + 7, 2 * given(lent.curve_vertices)),
-    }
-}
-
-// As many of a list's words as there are.
-fn cut(words: usize, list: &[u32]) -> usize
-    ensures { λ r. ⌜ Within r (now (list .entry)) ⌝ }
-{
-    if list.len() < words {
-        return list.len();
-    }
-    words
-}
-
-fn cut_numbers(words: usize, list: &[f32]) -> usize
-    ensures { λ r. ⌜ Within r (now (list .entry)) ⌝ }
-{
-    if list.len() < words {
-        return list.len();
-    }
-    words
-}
-
-// Lays the words handed in on the first bench, and answers the place after them.
-pub fn lay_bench(
-    text: &[u8],
-    case: Case,
-    positions: &mut [f32],
-    marks: &mut [u32],
-    points: &mut [u32],
-    lines: &mut [u32],
-    areas: &mut [u32],
-    volumes: &mut [u32],
-    curves: &mut [u32],
-    steps: &mut [u32],
-) -> usize {
-    let sizes = case.sizes;
-    let kind = case.kind;
-    let mut at = lay_vertices(text, case.words, positions, marks, given(sizes.vertices));
-    at = lay(text, at, points, given(sizes.points));
-    at = lay(text, at, lines, 3 * given(sizes.lines));
-    at = lay(text, at, areas, area_words(kind, given(sizes.areas)));
-    at = lay(text, at, volumes, volume_words(kind, given(sizes.volumes)));
-    at = lay(text, at, curves, 2 * given(sizes.curves));
-    lay(text, at, steps, 2 * given(sizes.curve_vertices))
-}
 
 // The entry, on benches that are cut already: cuts the book and smoothing's cells.
 fn with_cells(
@@ -173,7 +90,9 @@ fn with_second(
     sums: &mut [f32],
     tallies: &mut [u32],
 ) -> Refined {
-    let lent = widths(case, apart, 9);
+    let kind = case.kind;
+    let cells = case.lent;
+    let lent = widths(kind, cells, apart, 9);
     let p = cut_numbers(lent.positions, other_positions);
     let m = cut(lent.marks, other_marks);
     let o = cut(lent.points, other_points);
@@ -231,7 +150,9 @@ pub fn refine(
     sums: &mut [f32],
     tallies: &mut [u32],
 ) -> Refined {
-    let lent = widths(case, apart, 1);
+    let kind = case.kind;
+    let cells = case.lent;
+    let lent = widths(kind, cells, apart, 1);
     let p = cut_numbers(lent.positions, positions);
     let m = cut(lent.marks, marks);
     let o = cut(lent.points, points);

@@ -1,46 +1,17 @@
 // What a stored case expects: the answer, and every word of every list.
-use crate::head::area_words;
-use crate::head::given;
-use crate::head::sizes_at;
-use crate::head::volume_words;
-use crate::text::take;
-use crate::words::Held;
-use crate::words::hold;
-use crate::words::hold_vertices;
-use geom::answer::Ended;
+use cases::head::area_words;
+use cases::head::given;
+use cases::head::number_of;
+use cases::head::same_sizes;
+use cases::head::sizes_at;
+use cases::head::volume_words;
+use cases::text::take;
+use cases::words::Held;
+use cases::words::hold;
+use cases::words::hold_vertices;
 use geom::answer::Refined;
 use geom::answer::Sizes;
 use geom::kind::Kind;
-
-// How it ended as the file says it: 0, or the refusal's number.
-pub fn number_of(ended: Ended) -> u32 {
-    match ended {
-        Ended::Finished => 0,
-        Ended::Refused(n) => n as u32,
-    }
-}
-
-fn same_sizes(a: Sizes, b: Sizes) -> bool {
-    if a.vertices != b.vertices {
-        return false;
-    }
-    if a.points != b.points {
-        return false;
-    }
-    if a.lines != b.lines {
-        return false;
-    }
-    if a.areas != b.areas {
-        return false;
-    }
-    if a.volumes != b.volumes {
-        return false;
-    }
-    if a.curves != b.curves {
-        return false;
-    }
-    a.curve_vertices == b.curve_vertices
-}
 
 // Whether the answer is the expected one.
 fn same_answer(answer: Refined, refusal: u32, passes: u32, sizes: Sizes) -> bool {

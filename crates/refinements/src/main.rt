@@ -7,47 +7,19 @@ mod expected;
 mod head;
 mod replay;
 mod report;
-mod show;
-mod text;
 mod trial;
-mod words;
 mod worked;
 
-ghost use mathlib.Core.Path.{_≡_};
-ghost use lib.ListN.{length};
-ghost use Rattle.refinements.specs.Parts.{Within};
-use show::number;
-use show::say;
+use cases::files::file_buffer;
+use cases::files::load;
+use cases::show::number;
+use cases::show::say;
+use cases::text::line_end;
 
 fn main() {
     show_file(b"worked.txt");
     replay_file(b"simplices.txt", b"simplices: ");
     replay_file(b"cubes.txt", b"cubes: ");
-}
-
-// As many bytes as a file of cases may have, and one more.
-fn file_buffer() -> [u8; 262145]
-    ensures { λ r. ⌜ 262145 ≡ length r ⌝ }
-{
-    [0; 262145]
-}
-
-// Reads a file that the buffer has room for and more, and answers its length; of any other file nothing counts as read.
-fn load(path: &[u8], text: &mut [u8]) -> usize
-    ensures { λ r. ⌜ Within r (now (text .exit)) ⌝ }
-{
-    let fd = os::open_read(path);
-    if fd < 0 {
-        os::fail(path);
-        return 0;
-    }
-    let n = io::read_full(fd, text);
-    libc::close(fd);
-    if n == text.len() {
-        say(b"the file is too long\n");
-        return 0;
-    }
-    n
 }
 
 // Shows the answers of a file of worked cases.
@@ -99,7 +71,7 @@ fn first(label: &[u8], text: &[u8], which: usize, at: usize) {
 // The line that starts at a place.
 fn line(text: &[u8], from: usize) {
     if from < text.len() {
-        let end = text::line_end(text, from);
+        let end = line_end(text, from);
         say(&text[from..end]);
         say(b"\n");
     }

@@ -1,8 +1,8 @@
 // Stored samples, replayed: a case agrees where the answer and every word of every list are as the file says.
 use crate::head::alike;
 use crate::head::case_at;
-use crate::text::token;
 use crate::trial::on_desk;
+use cases::text::token;
 
 // The cases and how many of them agree; which case is the first that does not, where it starts, and whether the file can't be read there.
 pub struct Tally {

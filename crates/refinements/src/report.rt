@@ -1,17 +1,18 @@
 // A worked case's answer: after a refusal at the door, whether every cell is as it was; else the mesh on the bench of the last whole pass.
 use crate::expected::hold_bench;
-use crate::expected::number_of;
 use crate::head::Case;
-use crate::head::area_words;
-use crate::head::given;
-use crate::head::volume_words;
-use crate::show::mesh;
-use crate::show::number;
-use crate::show::say;
-use crate::show::sizes;
-use crate::words::Held;
-use crate::words::blank;
-use crate::words::blank_numbers;
+use cases::head::area_words;
+use cases::head::given;
+use cases::head::volume_words;
+use cases::show::end;
+use cases::show::mesh;
+use cases::show::number;
+use cases::show::say;
+use cases::show::sizes;
+use cases::show::unchanged;
+use cases::words::Held;
+use cases::words::blank;
+use cases::words::blank_numbers;
 use geom::answer::Refined;
 
 // Whether the first bench has the words that were laid on it, and no other cell of it was written, within what was lent or past it.
@@ -85,24 +86,10 @@ fn rest_is_blank(
         && blank(tallies, 0)
 }
 
-fn unchanged(yes: bool) {
-    if yes {
-        say(b", nothing changed\n");
-        return;
-    }
-    say(b", CELLS CHANGED\n");
-}
-
 // How it ended, after how many whole passes; answers the refusal's number, or 0.
 fn ending(answer: Refined) -> u32 {
     let ended = answer.ended;
-    let refusal = number_of(ended);
-    if refusal == 0 {
-        say(b"finished");
-    } else {
-        say(b"refused ");
-        number(refusal as usize);
-    }
+    let refusal = end(ended);
     say(b" after ");
     number(answer.passes as usize);
     refusal

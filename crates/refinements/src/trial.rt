@@ -1,29 +1,15 @@
 // One case on a desk of fresh cells: laid out, refined, and then shown or held against what the file expects.
-ghost use mathlib.Core.Path.{_≡_};
-ghost use lib.ListN.{length};
-use crate::desk::lay_bench;
 use crate::desk::refine;
 use crate::expected::held_to;
-use crate::head::Apart;
 use crate::head::Case;
 use crate::report::report;
-use crate::text::BROKEN;
-use crate::words::BLANK;
-use crate::words::BLANK_NUMBER;
-use crate::words::Held;
+use cases::bench::cells;
+use cases::bench::lay_bench;
+use cases::bench::number_cells;
+use cases::head::Apart;
+use cases::text::BROKEN;
+use cases::words::Held;
 use geom::answer::Refined;
-
-fn cells() -> [u32; 8192]
-    ensures { λ r. ⌜ 8192 ≡ length r ⌝ }
-{
-    [BLANK; 8192]
-}
-
-fn number_cells() -> [f32; 8192]
-    ensures { λ r. ⌜ 8192 ≡ length r ⌝ }
-{
-    [BLANK_NUMBER; 8192]
-}
 
 // The first bench's cells, with the words handed in.
 pub fn on_desk(text: &[u8], case: Case, apart: Apart, show: bool) -> Held {
@@ -35,9 +21,13 @@ pub fn on_desk(text: &[u8], case: Case, apart: Apart, show: bool) -> Held {
     let mut volumes = cells();
     let mut curves = cells();
     let mut steps = cells();
+    let kind = case.kind;
+    let sizes = case.sizes;
     let at = lay_bench(
         text,
-        case,
+        case.words,
+        kind,
+        sizes,
         &mut positions,
         &mut marks,
         &mut points,

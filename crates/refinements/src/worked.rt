@@ -1,13 +1,12 @@
 // Worked cases: `=` and a name up to the end of its line; then the number of a slice that has a length of its own, from 1 on, and its words,
 // or 0 and 0; then a case as in the samples, without what is expected, which stands in `stdout`.
-use crate::head::apart_at;
 use crate::head::case_at;
-use crate::show::number;
-use crate::show::say;
-use crate::text::BROKEN;
-use crate::text::line_end;
-use crate::text::token;
 use crate::trial::on_desk;
+use cases::head::apart_at;
+use cases::show::name;
+use cases::show::stuck;
+use cases::text::BROKEN;
+use cases::text::token;
 
 pub fn show_all(text: &[u8]) {
     let mut at = token(text, 0);
@@ -25,23 +24,12 @@ pub fn show_all(text: &[u8]) {
     }
 }
 
-fn stuck(at: usize) {
-    say(b"worked.txt can't be read on from byte ");
-    number(at);
-    say(b"\n");
-}
-
 // The case at a place: its name, and its answer.
 fn show_one(text: &[u8], at: usize) -> usize {
-    if text.len() <= at {
+    let end = name(text, at);
+    if end == BROKEN {
         return BROKEN;
     }
-    if text[at] != b'=' {
-        return BROKEN;
-    }
-    let end = line_end(text, at);
-    say(&text[at..end]);
-    say(b"\n");
     let apart = apart_at(text, end);
     let case = case_at(text, apart.next);
     let held = on_desk(text, case, apart, true);

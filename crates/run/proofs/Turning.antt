@@ -1,56 +1,24 @@
 -- One turn of a run, from the bench that is read to the other: what holds before it, and what its answer means.
 -- Assumes nothing.
-use mathlib.Core.Path.{_≡_, refl, sym, _∙_, ap, ap₂, subst}
+use mathlib.Core.Path.{_≡_, sym, _∙_, ap, ap₂, subst}
 use mathlib.Core.Bool.{Bool, true, false, cond}
-use mathlib.Core.List.{List, [], _∷_, map}
+use mathlib.Core.List.{List}
 use Prim.Native.Nat.{ℕ, suc, _+_, _-_, _/_, _≤_, _<_}
 use native.Mathlib.Omega.{arith}
 use native.Mathlib.Numerals.{add-one}
 use lib.Ieee.{Float}
-use lib.ListN.{length, getD, take, drop, length-take, length-drop, length-map}
+use lib.ListN.{length}
 use Rattle.geom.specs.declared.answer.Sizes.{Sizes}
 use Rattle.geom.specs.declared.answer.Refined.{Refined}
 use Rattle.geom.specs.Answers.{Verdict, accepted, refused, told}
 use Rattle.geom.specs.Book.{Kind}
-use Rattle.geom.specs.Mesh.{curveVertices, sizesOf}
-use Rattle.geom.specs.Memory.{Bench, CurveRow, StepRow, areaCorners, volumeCorners, cells, firstOf, vertexRow, elementRow, curveRow, stepRow, curvesOf, elementOf, rowsOf, meshOf}
-use Rattle.geom.specs.Refusals.{curveLengths, countsHold, marksHold, StandsFor}
+use Rattle.geom.specs.Memory.{Bench, cells, rowsOf, meshOf}
+use Rattle.geom.specs.Refusals.{countsHold, marksHold, StandsFor}
 use Rattle.geom.specs.Refinement.{State, Lent, Run, passOver, fits, runFrom, toldBy}
-use Rattle.geom.proofs.Rows.{length-firstOf}
+use Rattle.geom.proofs.Stated.{sizes-stated}
 use Rattle.book.specs.Cells as Book
 use Rattle.pass.specs.Benches.{stateOf, lentOf, roomOf, capped, Held, Lends, Onward}
-use Rattle.pass.proofs.Next.{length-rows}
 use Rattle.pass.proofs.Ready.{held-sum}
-
--- ---- the sizes of the mesh that rows stand for
-
-curves-count : (cs : List CurveRow) (rs : List StepRow) → curveLengths cs ≤ length rs → curveVertices (curvesOf cs rs) ≡ curveLengths cs
-unfolding curvesOf curveVertices curveLengths
-curves-count [] rs l = refl
-curves-count (c ∷ cs) rs l =
-    let a = length-map (take (c .count) rs) (λ (r : StepRow). r .vertex) in
-    let b = length-take (c .count) rs in
-    let d = length-drop (c .count) rs in
-    omega (arith, a, b, curves-count cs (drop (c .count) rs) (omega arith))
-
-elements-count : (k : ℕ) (words : List ℕ) (n : ℕ) → length (map elementOf (firstOf (elementRow k words) n)) ≡ n
-elements-count k words n = length-map (firstOf (elementRow k words) n) elementOf ∙ length-firstOf (elementRow k words) n
-
-sizes-stated : (kind : Kind) (s : Sizes) (b : Bench) → curveLengths (firstOf (curveRow (b .curves)) (s .curves)) ≡ s .«curve_vertices» → sizesOf (meshOf (rowsOf kind s b)) ≡ s
-unfolding sizesOf meshOf rowsOf
-sizes-stated kind s b e =
-    let cs = firstOf (curveRow (b .curves)) (s .curves) in
-    let rs = firstOf (stepRow (b .curveVertices)) (s .«curve_vertices») in
-    λ i.
-    record {
-      vertices = length-firstOf (vertexRow (b .positions) (b .marks)) (s .vertices) i;
-      points = length-firstOf (λ (j : ℕ). getD (b .points) j 0) (s .points) i;
-      lines = elements-count 2 (b .lines) (s .lines) i;
-      areas = elements-count (areaCorners kind) (b .areas) (s .areas) i;
-      volumes = elements-count (volumeCorners kind) (b .volumes) (s .volumes) i;
-      curves = (length-rows cs rs ∙ length-firstOf (curveRow (b .curves)) (s .curves)) i;
-      «curve_vertices» = (curves-count cs rs (omega (arith, length-firstOf (stepRow (b .curveVertices)) (s .«curve_vertices»))) ∙ e) i;
-    }
 
 -- ---- what is lent stays
 

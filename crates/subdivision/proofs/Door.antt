@@ -1,15 +1,16 @@
 -- The entry's door: what holds once a mesh is accepted, and what the answer means in each case.
 -- Assumes nothing.
 use mathlib.Core.Path.{_≡_, refl, sym, _∙_, ap, subst}
-use mathlib.Core.Bool.{Bool, true, false, not, _&&_}
+use mathlib.Core.Bool.{true, _&&_}
 use Prim.Native.Nat.{ℕ, _-_, _/_, min}
 use native.Mathlib.Nat.{add-zero}
 use native.Mathlib.Omega.{arith}
 use lib.Dec.{eqb}
 use lib.ListN.{length}
+use borrow.Author.Tests.{not-false}
 use Rattle.geom.specs.declared.answer.Sizes.{Sizes}
 use Rattle.geom.specs.declared.answer.Ended.{Ended}
-use Rattle.geom.specs.declared.answer.Ended.the-variants.{Finished, Refused}
+use Rattle.geom.specs.declared.answer.Ended.the-variants.{Refused}
 use Rattle.geom.specs.declared.answer.Refined.{Refined}
 use Rattle.geom.specs.Answers.{Verdict, accepted, refused, verdictOf, told}
 use Rattle.geom.specs.Book.{Kind}
@@ -30,10 +31,6 @@ use Rattle.subdivision.proofs.Keeping.{refines}
 
 -- ---- tests that passed
 
-holds : (b : Bool) → not b ≡ false → b ≡ true
-holds true e = refl
-holds false e = sym e
-
 -- counts within each other are equal
 twins : (s t : Sizes) → Within s t → Within t s → s ≡ t
 twins s t f g =
@@ -51,15 +48,15 @@ twins s t f g =
 module _ (kind : Kind) (s : Sizes) (d : Desk) (time : ℕ) (e : refinementVerdict kind s d time ≡ accepted) where
   nine : (countsHold kind s (d .first) && benchesHold kind d) ≡ true
   unfolding refinementVerdict handedIn
-  nine = holds _ (none-due (handedIn (benchesHold kind d) (goodParity time) kind s (d .first)) e .0)
+  nine = not-false _ (none-due (handedIn (benchesHold kind d) (goodParity time) kind s (d .first)) e .0)
 
   ten : within s LIMITS ≡ true
   unfolding refinementVerdict handedIn
-  ten = holds _ (none-due (handedIn (benchesHold kind d) (goodParity time) kind s (d .first)) e .1 .1 .1 .1 .1 .0)
+  ten = not-false _ (none-due (handedIn (benchesHold kind d) (goodParity time) kind s (d .first)) e .1 .1 .1 .1 .1 .0)
 
   five : (marksHold (rowsOf kind s (d .first)) && goodParity time) ≡ true
   unfolding refinementVerdict handedIn
-  five = holds _ (none-due (handedIn (benchesHold kind d) (goodParity time) kind s (d .first)) e .1 .0)
+  five = not-false _ (none-due (handedIn (benchesHold kind d) (goodParity time) kind s (d .first)) e .1 .0)
 
   pub held : Held kind (s .vertices) s (d .first) (d .book) 0
   unfolding pairsOf firstOf
@@ -114,11 +111,6 @@ module _ (kind : Kind) (s : Sizes) (d : Desk) (time : ℕ) (e : refinementVerdic
   runs depth after r q =
       refines kind s d after depth time (q .answer ∙ ap (toldAfter s) (sym (run-is depth)))
       (subst (λ (x : Subdivided). Leaves kind x d after) (sym (run-is depth)) (q .stands))
-
--- the judge found nothing
-pub accepted-by : {ended : Ended} {v : Verdict} → verdictOf ended ≡ v → ended ≡ Finished → v ≡ accepted
-unfolding verdictOf
-accepted-by j e = sym j ∙ ap verdictOf e
 
 -- ---- refused
 

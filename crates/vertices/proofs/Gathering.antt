@@ -35,7 +35,7 @@ getD-sets-before l a [] j d h = refl
 getD-sets-before l a (x ∷ ws) j d h =
     getD-sets-before (set l a x) (suc a) ws j d (omega arith) ∙ getD-set-other l a j x d (λ e. omega arith)
 
-getD-sets-at : {A : Type 0} (l : List A) (a : ℕ) (ws : List A) (k : ℕ) (d : A) → k < length ws → a + length ws ≤ length l → getD (sets l a ws) (a + k) d ≡ getD ws k d
+pub getD-sets-at : {A : Type 0} (l : List A) (a : ℕ) (ws : List A) (k : ℕ) (d : A) → k < length ws → a + length ws ≤ length l → getD (sets l a ws) (a + k) d ≡ getD ws k d
 getD-sets-at l a [] k d h r = absurd (omega arith)
 getD-sets-at l a (x ∷ ws) zero d h r =
     let e : a + 0 ≡ a = omega arith in
@@ -48,7 +48,7 @@ apart : (v u : ℕ) → v ≢ u → u ≤ v → u < v
 apart v u ne h = elim (eq-or-lt-of-le h) [ inl e ↦ absurd (ne (sym e)) | inr l ↦ l ]
 
 -- word k of row u, of rows as wide as what was written to row v
-other-row : {A : Type 0} (l ws : List A) (n : ℕ) (v u k : ℕ) (d : A) → length ws ≡ n → k < n → v ≢ u → getD (sets l (n * v) ws) (n * u + k) d ≡ getD l (n * u + k) d
+pub other-row : {A : Type 0} (l ws : List A) (n : ℕ) (v u k : ℕ) (d : A) → length ws ≡ n → k < n → v ≢ u → getD (sets l (n * v) ws) (n * u + k) d ≡ getD l (n * u + k) d
 other-row l ws n v u k d e h ne = go (ltb v u) refl
   where
     go : (b : Bool) → ltb v u ≡ b → getD (sets l (n * v) ws) (n * u + k) d ≡ getD l (n * u + k) d
@@ -59,7 +59,7 @@ other-row l ws n v u k d e h ne = go (ltb v u) refl
         let p : u < v = apart v u ne (ltb-false v u q) in
         getD-sets-before l (n * v) ws (n * u + k) d (omega (arith, mul-suc n u, mul-le-mul-left n p))
 
-point-same : (l : List Float) (v : ℕ) (p : Vec4) → 4 * v + 4 ≤ length l → pointRow (sets l (4 * v) (positionWords p)) v ≡ p
+pub point-same : (l : List Float) (v : ℕ) (p : Vec4) → 4 * v + 4 ≤ length l → pointRow (sets l (4 * v) (positionWords p)) v ≡ p
 unfolding pointRow
 point-same l v p h =
     let e : 4 * v + 0 ≡ 4 * v = omega arith in
@@ -69,7 +69,7 @@ point-same l v p h =
     let w = getD-sets-at l (4 * v) (positionWords p) 3 Binary32.zero (omega arith) (omega arith) in
     λ i. record { x = x i; y = y i; z = z i; w = w i }
 
-point-other : (l : List Float) (v u : ℕ) (p : Vec4) → v ≢ u → pointRow (sets l (4 * v) (positionWords p)) u ≡ pointRow l u
+pub point-other : (l : List Float) (v u : ℕ) (p : Vec4) → v ≢ u → pointRow (sets l (4 * v) (positionWords p)) u ≡ pointRow l u
 unfolding pointRow
 point-other l v u p ne =
     let e : 4 * u + 0 ≡ 4 * u = omega arith in
@@ -201,7 +201,7 @@ corners-count rank p v (c ∷ cs) g =
 pub length-part : (words : List ℕ) (start k : ℕ) → start + k ≤ length words → length (take k (drop start words)) ≡ k
 length-part words start k h = simp (length-take, length-drop) (omega arith)
 
-part-more : (words : List ℕ) (start k : ℕ) → start + k < length words → take (k + 1) (drop start words) ≡ take k (drop start words) ++ getD words (start + k) 0 ∷ []
+pub part-more : (words : List ℕ) (start k : ℕ) → start + k < length words → take (k + 1) (drop start words) ≡ take k (drop start words) ++ getD words (start + k) 0 ∷ []
 part-more words start k h =
     let l : k < length (drop start words) = simp length-drop (omega arith) in
     ap (λ (n : ℕ). take n (drop start words)) (add-one k) ∙ take-suc (drop start words) k 0 l
@@ -266,7 +266,7 @@ gather-snoc rank result vertices v [] e g = refl
 gather-snoc rank result vertices v (x ∷ es) e g =
     gather-snoc rank result vertices v es e (toCorners rank (result (map (positionAt vertices) (x .corners))) v (x .corners) g)
 
-position-of : (positions : List Float) (marks : List ℕ) (count v : ℕ) → v < count → positionAt (firstOf (vertexRow positions marks) count) v ≡ pointRow positions v
+pub position-of : (positions : List Float) (marks : List ℕ) (count v : ℕ) → v < count → positionAt (firstOf (vertexRow positions marks) count) v ≡ pointRow positions v
 unfolding vertexRow pointRow
 position-of positions marks count v h =
     ap (λ (x : Vertex). x .position) (getD-firstOf (vertexRow positions marks) (record { position = Points4.origin; flags = 0; tag = 0; k = 0 }) v count h)
@@ -284,7 +284,7 @@ positions-of positions marks words start n count (suc k) c h =
     (position-of positions marks count (getD words (start + k) 0) (c .below k (omega arith)))
     ∙ sym (ap (map (pointRow positions)) m ∙ map-append (pointRow positions) (take k (drop start words)) (getD words (start + k) 0 ∷ []))
 
-elements-more : (corners : ℕ) (words : List ℕ) (i : ℕ) → elementsOf corners words (i + 1) ≡ elementsOf corners words i ++ elementOf (elementRow corners words i) ∷ []
+pub elements-more : (corners : ℕ) (words : List ℕ) (i : ℕ) → elementsOf corners words (i + 1) ≡ elementsOf corners words i ++ elementOf (elementRow corners words i) ∷ []
 unfolding firstOf
 elements-more corners words i = rw (add-one i) (map-append elementOf (firstOf (elementRow corners words) i) (elementRow corners words i ∷ []))
 

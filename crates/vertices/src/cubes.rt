@@ -7,11 +7,11 @@ ghost use Rattle.geom.specs.Memory.{over};
 ghost use Rattle.geom.specs.Smoothing.{smoothed};
 ghost use Rattle.vertices.specs.Cells.{positionsWords, verticesOf, listsOf, Stand, Lent, Gathers};
 use crate::gather::clear;
-use crate::gather::gather;
+use crate::list::smooth_over;
 use crate::rules::Rule;
-use crate::settle::settle;
 
 // All vertices, smoothed over the new lists. Their marks stay.
+#[rattlefmt::skip]
 pub fn smooth(
     points: &mut [f32],
     marks: &[u32],
@@ -32,8 +32,7 @@ pub fn smooth(
     ensures { λ r. ⌜ ((curves : List Curve) → now (points .exit) ≡ over (now (points .entry)) (positionsWords (smoothed Book.cubes time (listsOf (now (lines .entry)) line 4 (now (areas .entry)) area 8 (now (volumes .entry)) volume curves) (verticesOf (now (points .entry)) (now (marks .entry)) count)))) ⌝ }
 {
     clear(sum, tally, count);
-    gather(points, lines, sum, tally, Rule::Line, 2, line, count, 1);
-    gather(points, areas, sum, tally, Rule::Square, 4, area, count, 2);
-    gather(points, volumes, sum, tally, Rule::Cube, 8, volume, count, 3);
-    settle(points, marks, sum, tally, count, time);
+    smooth_over(points, marks, lines,   sum, tally, Rule::Line,   2, line,   count, 1, false, time);
+    smooth_over(points, marks, areas,   sum, tally, Rule::Square, 4, area,   count, 2, false, time);
+    smooth_over(points, marks, volumes, sum, tally, Rule::Cube,   8, volume, count, 3, true,  time);
 }

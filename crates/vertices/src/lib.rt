@@ -3,6 +3,7 @@
 pub mod cells;
 mod cubes;
 pub mod gather;
+mod list;
 pub mod make;
 pub mod pass;
 pub mod rules;

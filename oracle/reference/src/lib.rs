@@ -29,6 +29,7 @@ pub mod mesh;
 pub mod random;
 pub mod sheet;
 
-// Document 01's refinement and ledger from its sentences alone, to hold the others against.
+// Document 01's refinement, ledger and sums of normals from its sentences alone, to hold the others against.
+pub mod gathered;
 pub mod ledger;
 pub mod model;

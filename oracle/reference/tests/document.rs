@@ -1,13 +1,14 @@
 //! The carried Rust against models written from document 01's sentences alone (sections 2 to 4 in `model`, 5 in `ledger`,
-//! 6 and 7 here), on random meshes: every list, every bit, tags and k; then the ledger over what the carried Rust makes.
+//! 7 in `gathered`, the rest here), on random meshes: every list, every bit, tags and k; then the ledger over what the carried Rust makes.
 
 mod common;
 
 use reference::{
+    gathered::{sums_3d, sums_4d},
     ledger::{ledger, refined},
     memory::{normals_3d, normals_4d, subdivided, triangulated, Normal},
     mesh::{Element, Kind, Mesh},
-    model::{axes, Model, Point},
+    model::Model,
     random::{self, Bounds, Rng},
 };
 
@@ -59,56 +60,7 @@ fn normalised<const N: usize>(v: [f32; N]) -> Normal<N> {
     Normal::Direction(v.map(|c| (c * r).to_bits()))
 }
 
-/// Section 7, 3D.
-fn shade_3d(mesh: &Mesh) -> Vec<Normal<3>> {
-    let mut sums = vec![[0_f32; 3]; mesh.verts.len()];
-    for e in &mesh.areas {
-        let [a, b, c] = e.corners[..] else {
-            unreachable!()
-        };
-        if a == b || b == c || a == c {
-            continue;
-        }
-        let at = |v: u32| mesh.verts[v as usize].bits.map(f32::from_bits);
-        let (v1, v2, v3) = (at(a), at(b), at(c));
-        let p: Vec<f32> = (0..3).map(|i| v2[i] - v1[i]).collect();
-        let q: Vec<f32> = (0..3).map(|i| v3[i] - v2[i]).collect();
-        let cross = [
-            p[1] * q[2] - p[2] * q[1],
-            p[2] * q[0] - p[0] * q[2],
-            p[0] * q[1] - p[1] * q[0],
-        ];
-        let sign = if e.parity == 0 { 1_f32 } else { -1. };
-        for v in [a, b, c] {
-            for i in 0..3 {
-                sums[v as usize][i] += sign * cross[i];
-            }
-        }
-    }
-    sums.into_iter().map(normalised).collect()
-}
-
-/// Section 7, 4D: minor i leaves axis i out; signs -, +, -, +.
-fn shade_4d(mesh: &Mesh) -> Vec<Normal<4>> {
-    let mut sums = vec![[0_f32; 4]; mesh.verts.len()];
-    for e in &mesh.volumes {
-        let at = |i: usize| mesh.verts[e.corners[i] as usize].bits.map(f32::from_bits);
-        let from = at(0);
-        let d: Vec<Point> = (1..4).map(|j| axes(|i| at(j)[i] - from[i])).collect();
-        let sign = if e.parity == 0 { 1_f32 } else { -1. };
-        let n = axes(|left_out| {
-            let kept: Vec<usize> = (0..4).filter(|i| *i != left_out).collect();
-            let [p, q, r] = [0, 1, 2].map(|c| [0, 1, 2].map(|row: usize| d[row][kept[c]]));
-            let det = (p[0] * (q[1] * r[2] - r[1] * q[2]) - q[0] * (p[1] * r[2] - r[1] * p[2]))
-                + r[0] * (p[1] * q[2] - q[1] * p[2]);
-            sign * if left_out % 2 == 0 { -det } else { det }
-        });
-        for c in &e.corners {
-            for i in 0..4 {
-                sums[*c as usize][i] += n[i];
-            }
-        }
-    }
+fn shaded<const N: usize>(sums: Vec<[f32; N]>) -> Vec<Normal<N>> {
     sums.into_iter().map(normalised).collect()
 }
 
@@ -143,8 +95,8 @@ fn compare(kind: Kind, seeds: std::ops::Range<u64>, bounds: &Bounds) {
             Kind::Simplices => after,
         };
         let (three, four) = (normals_3d(&simplices), normals_4d(&simplices));
-        assert_eq!(three, shade_3d(&simplices), "seed {seed}");
-        assert_eq!(four, shade_4d(&simplices), "seed {seed}");
+        assert_eq!(three, shaded(sums_3d(&simplices)), "seed {seed}");
+        assert_eq!(four, shaded(sums_4d(&simplices)), "seed {seed}");
         flat += four.iter().filter(|n| **n == Normal::Flat).count();
         directed += four.iter().filter(|n| **n != Normal::Flat).count();
     }

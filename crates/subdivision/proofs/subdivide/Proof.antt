@@ -6,7 +6,8 @@ use Rattle.geom.specs.Kinds.{kindOf}
 use Rattle.geom.specs.Refusals.{Desk}
 use Rattle.judge.specs.Judged.{bench}
 use Rattle.subdivision.specs.Entry.{desk}
-use Rattle.subdivision.proofs.Door.{held, lends, runs, accepted-by, refuses}
+use Rattle.geom.proofs.Accepted.{accepted-by}
+use Rattle.subdivision.proofs.Door.{held, lends, runs, refuses}
 use borrow.Author.Needs.{needs}
 use Rattle.subdivision.proofs.subdivide.Statement.{statement}
 use Rattle.subdivision.proofs.subdivide.Tie as tie

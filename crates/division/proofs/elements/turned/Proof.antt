@@ -2,7 +2,7 @@
 use mathlib.Core.Path.{_∙_, ap}
 use Rattle.geom.specs.declared.parity.Parity.{Parity}
 use Rattle.geom.specs.Parity.{times}
-use Rattle.division.proofs.Tables.{parity-odd}
+use Rattle.geom.proofs.Rows.{parity-odd}
 use borrow.Author.Needs.{needs}
 use Rattle.division.proofs.elements.turned.Statement.{statement}
 use Rattle.division.proofs.elements.turned.Tie as tie

@@ -1,40 +1,60 @@
--- `numbers::root::whole_root` meets its contract. The invariant: the root lies between low and low + width. The measure is the width. Assumes nothing.
-use mathlib.Core.Logic.{⊎-elim}
+-- `numbers::root::whole_root` meets its contract. The invariant: low is not above the root. The measure is what low lacks of 2 ^ 25. Assumes nothing.
+use Prim.Native.Nat.{_-_, _^_}
 use native.Mathlib.Omega.{arith}
-use Rattle.numbers.proofs.WholeRoot.{Between, between-start, middle-fits, upper-half, lower-half, between-done}
+use borrow.Author.Needs.{needs}
+use Rattle.numbers.proofs.WholeRoot.{product-fits, NotAbove, not-above, last-is-root}
 use Rattle.numbers.proofs.root.whole_root.Statement.{statement}
 use Rattle.numbers.proofs.root.whole_root.Tie as tie
 
 abbrev Inv-loop : tie.InvT-loop
-Inv-loop n low₀ width₀ low width = Between n low width
+Inv-loop n low₀ low = NotAbove n low
 
 abbrev μ-loop : tie.MeasureT-loop
-μ-loop n low₀ width₀ low width = width
+μ-loop n low₀ low = 2 ^ 25 - low
+
+guess-requires : tie.Need-guess-requires Inv-loop μ-loop
+guess-requires c κs = search needs
+
+not-above-requires : tie.Need-not-above-requires Inv-loop μ-loop
+not-above-requires c κs = search needs
 
 loop-holds : tie.Need-loop-holds Inv-loop μ-loop
-loop-holds c = between-start _ (c .pre)
+loop-holds c = not-above (c .before .before .pre) (c .not-above .ensures)
 
-add-middle : tie.Need-add-middle Inv-loop μ-loop
-add-middle c = omega (arith, c .before .loop .inv .small)
+add-loop : tie.Need-add-loop Inv-loop μ-loop
+add-loop c = omega (arith, c .loop .inv .small)
 
-mul-if1 : tie.Need-mul-if1 Inv-loop μ-loop
-mul-if1 c = record { fits = middle-fits (c .before .loop .inv) }
+add-loop-2 : tie.Need-add-loop-2 Inv-loop μ-loop
+add-loop-2 c = omega (arith, c .loop .inv .small)
 
-sub-width : tie.Need-sub-width Inv-loop μ-loop
-sub-width c = omega arith
+mul-loop : tie.Need-mul-loop Inv-loop μ-loop
+mul-loop c = record { fits = product-fits (omega (arith, c .loop .inv .small)) (omega (arith, c .loop .inv .small)) }
+
+add-low : tie.Need-add-low Inv-loop μ-loop
+add-low c = omega (arith, c .before .loop .inv .small)
 
 loop-less : tie.Need-loop-less Inv-loop μ-loop
-loop-less c = omega arith
+loop-less c = omega (arith, c .before .loop .inv .small)
 
 loop-again : tie.Need-loop-again Inv-loop μ-loop
-loop-again c =
-    let between = c .before .before .loop .inv in
-    ⊎-elim (λ w. rw (w .1) (upper-half between (w .0 .taken))) (λ w. rw (w .1) (lower-half between (w .0 .left))) (c .if1 .came)
+loop-again c = not-above (c .before .before .before .before .pre) (c .loop-test .taken)
 
 returns : tie.Need-returns Inv-loop μ-loop
-returns c = (between-done (c .before .loop .inv) (c .loop-test .left), omega (arith, c .before .loop .inv .some, c .before .loop .inv .small))
+returns c = (last-is-root (c .before .loop .inv) (c .loop-test .left), c .before .loop .inv .small)
 
 pub whole-root-spec : {M : Type 1} → statement M
 whole-root-spec =
     tie.close
-    (tie.spec Inv-loop μ-loop loop-holds add-middle mul-if1 sub-width loop-less loop-again returns)
+    (tie.spec
+    Inv-loop
+    μ-loop
+    guess-requires
+    not-above-requires
+    loop-holds
+    add-loop
+    add-loop-2
+    mul-loop
+    add-low
+    loop-less
+    loop-again
+    returns)

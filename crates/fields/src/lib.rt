@@ -1,0 +1,5 @@
+// Document 01, section 8: the fields and rows of a file, each read whole and then judged, before the next is read. Nothing is written.
+pub mod field;
+pub mod listed;
+pub mod reader;
+pub mod rows;

@@ -1,0 +1,87 @@
+-- The version, the kind, and a whole file as these and its lists.
+-- Assumes nothing.
+use mathlib.Core.Path.{_≡_, refl, sym, _∙_}
+use mathlib.Core.List.{List}
+use Prim.Native.Nat.{ℕ, _<_}
+use native.Mathlib.Omega.{arith}
+use lib.Dec.{eqb}
+use lib.ListN.{drop}
+use borrow.Author.Tests.{eq-eqb, ne-eqb, lt-leb}
+use Rattle.geom.specs.declared.answer.Sizes.{Sizes}
+use Rattle.geom.specs.declared.answer.Opened.{Opened}
+use Rattle.geom.specs.declared.answer.Opened.the-variants.{Cubes, Simplices, Refused}
+use Rattle.geom.specs.declared.kind.Kind as Declared
+use Rattle.geom.specs.Book.{Kind, cubes, simplices}
+use Rattle.geom.specs.Kinds.{kindOf}
+use Rattle.geom.specs.File.{Read, Reader, Figure, read, stop, andThen, _>>=_, judged, byte, kindField, figure}
+use Rattle.fields.specs.Fields.{Reads}
+use Rattle.figure.specs.declared.judging.Found.{Found}
+use Rattle.figure.specs.declared.judging.Found.the-variants as Found
+use Rattle.figure.specs.Places.{opening, lying, Kinds, Opens, Lies, Finds}
+
+-- ---- the kind
+
+module _ (bytes : List ℕ) (x : ℕ) (r : Reads bytes 1 2 x byte) (v : ℕ) (e : v ≡ x) where
+  pub kind-cubes : v ≡ 0 → kindField (drop 1 bytes) ≡ read cubes (drop 2 bytes)
+  unfolding kindField judged
+  kind-cubes h = let z : x ≡ 0 = omega arith in rw (r .reads, z) refl
+
+  pub kind-simplices : v ≡ 1 → kindField (drop 1 bytes) ≡ read simplices (drop 2 bytes)
+  unfolding kindField judged
+  kind-simplices h = let z : x ≡ 1 = omega arith in rw (r .reads, z) refl
+
+  pub kind-other : (v ≡ 0 → ⊥) → (v ≡ 1 → ⊥) → kindField (drop 1 bytes) ≡ stop 2
+  unfolding kindField judged
+  kind-other h l = rw (r .reads, lt-leb x 1 (rw e at (above v h l))) refl
+    where
+      above : (v : ℕ) → (v ≡ 0 → ⊥) → (v ≡ 1 → ⊥) → 1 < v
+      above v h l = omega (arith, h, l)
+
+-- ---- the version
+
+module _ (bytes : List ℕ) (x : ℕ) (r : Reads bytes 0 1 x byte) (v : ℕ) (e : v ≡ x) where
+  pub version-other : (v ≡ 1 → ⊥) → opening bytes ≡ stop 1
+  unfolding opening judged
+  version-other h = rw (r .reads, ne-eqb x 1 (λ z. h (e ∙ z))) refl
+
+  version-one : v ≡ 1 → opening bytes ≡ kindField (drop 1 bytes)
+  unfolding opening judged
+  version-one h = rw (r .reads, eq-eqb x 1 (sym e ∙ h)) refl
+
+  pub version-opens : v ≡ 1 → (o : Opened) → Kinds o bytes → Opens o bytes
+  version-opens h Cubes k = version-one h ∙ k
+  version-opens h Simplices k = version-one h ∙ k
+  version-opens h (Refused n) k = version-one h ∙ k
+
+-- ---- the whole
+
+module _ (lent : Kind → Sizes) where
+  abbrev behind : Kind → Reader Figure
+  behind kind = lying kind (lent kind)
+
+  figure-is : (bytes : List ℕ) → figure lent bytes ≡ andThen (opening bytes) (λ (kind : Kind). lying kind (lent kind))
+  unfolding figure opening lying
+  figure-is bytes = version (byte bytes)
+    where
+      checked : (q : Read ℕ) → andThen q (λ (_ : ℕ). _>>=_ kindField behind) ≡ andThen (andThen q (λ (_ : ℕ). kindField)) behind
+      checked (read v b) = refl
+      checked (stop n) = refl
+
+      version : (p : Read ℕ) → andThen p (λ (v : ℕ). _>>=_ (judged 1 (eqb v 1) v) (λ (_ : ℕ). _>>=_ kindField behind))
+          ≡ andThen (andThen p (λ (v : ℕ). _>>=_ (judged 1 (eqb v 1) v) (λ (_ : ℕ). kindField))) behind
+      version (read v b) = checked (judged 1 (eqb v 1) v b)
+      version (stop n) = refl
+
+  pub figure-stops : (bytes : List ℕ) (n : ℕ) → opening bytes ≡ stop n → figure lent bytes ≡ stop n
+  figure-stops bytes n e = figure-is bytes ∙ rw e refl
+
+  pub figure-finds : (bytes : List ℕ) (kind : Declared.Kind) (cells : Sizes) → opening bytes ≡ read (kindOf kind) (drop 2 bytes) → cells ≡ lent (kindOf kind)
+      → (r : Found) → Lies r kind cells bytes → Finds r lent bytes
+  figure-finds bytes kind cells e q (Found.Mesh k s) l =
+      rw (l .0)
+      (record {
+        reads = figure-is bytes ∙ rw (e, ← q) (l .1);
+        lain = l .2;
+        fits = rw q at (l .3);
+      })
+  figure-finds bytes kind cells e q (Found.Refused n) l = figure-is bytes ∙ rw (e, ← q) l

@@ -1,0 +1,149 @@
+-- The entries: what holds once the lists handed in are accepted, and what each answer means.
+-- Assumes nothing.
+use mathlib.Core.Path.{_≡_, sym, _∙_, ap, subst}
+use mathlib.Core.Bool.{Bool, true, false, not, _&&_}
+use mathlib.Core.List.{List, [], _∷_, flatMap}
+use mathlib.Core.Logic.{_⊎_, inl, inr}
+use Prim.Native.Nat.{ℕ, zero, suc, _*_, _/_, _≤_, _<_}
+use native.Mathlib.Nat.{mul-suc, mul-le-mul-left, eq-or-lt-of-le}
+use native.Mathlib.Omega.{arith}
+use lib.Dec.{leb}
+use lib.Ieee.{Float}
+use lib.ListN.{length, getD, take, drop}
+use lib.Seq.{getD-take, getD-drop}
+use borrow.Author.Tests.{not-false, ltb-true, le-leb, lt-leb}
+use Rattle.numbers.specs.Points4 as Points4
+use Rattle.numbers.specs.Normal.{normalised3, normalised4, cells3, cells4}
+use Rattle.geom.specs.declared.answer.Sizes.{Sizes}
+use Rattle.geom.specs.declared.answer.Ended.{Ended}
+use Rattle.geom.specs.declared.answer.Ended.the-variants.{Finished, Refused}
+use Rattle.geom.specs.Answers.{Verdict, accepted, verdictOf, due, firstDue}
+use Rattle.geom.specs.Book.{simplices}
+use Rattle.geom.specs.Memory.{Bench, ElementRow, firstOf, elementRow, rowsOf, meshOf, over}
+use Rattle.geom.specs.Normals.{gather3, gather4, origin3, normals3, normals4, Shaded, shadedBy, shadingVerdict}
+use Rattle.geom.specs.Refusals.{every, goodNumber, countsHold, numbersHold, handedIn}
+use Rattle.geom.proofs.Lists.{and-true-left, and-true-right}
+use Rattle.geom.proofs.Accepted.{none-due, refused-before, accepted-before, vertex-count}
+use Rattle.judge.proofs.Every.{every-suc}
+use Rattle.judge.proofs.Verdicts.{counts-positions, counts-marked}
+use Rattle.vertices.specs.Cells.{verticesOf, elementsOf, Elements}
+use Rattle.vertices.proofs.Gathering.{length-part}
+
+-- ---- what an acceptance gives
+
+-- every row passes: so does row i
+every-at : {A : Type 0} (test : A → Bool) (at : ℕ → A) (n i : ℕ) → every test (firstOf at n) ≡ true → i < n → test (at i) ≡ true
+every-at test at zero i e h = absurd (omega arith)
+every-at test at (suc n) i e h =
+    let q = sym (every-suc test at n) ∙ e in
+    go (every-at test at n i (and-true-left (every test (firstOf at n)) (test (at n)) q)) (and-true-right (every test (firstOf at n)) (test (at n)) q) (eq-or-lt-of-le {n = i} {m = n} (omega arith))
+  where
+    go : (i < n → test (at i) ≡ true) → test (at n) ≡ true → (i ≡ n) ⊎ (i < n) → test (at i) ≡ true
+    go rest last (inl q) = rw q last
+    go rest last (inr l) = rest l
+
+-- so does the entry at a place of a list
+every-in : (test : ℕ → Bool) (xs : List ℕ) (k : ℕ) → every test xs ≡ true → k < length xs → test (getD xs k 0) ≡ true
+unfolding every
+every-in test [] k e h = absurd (omega arith)
+every-in test (x ∷ xs) zero e h = and-true-left (test x) (every test xs) e
+every-in test (x ∷ xs) (suc k) e h = every-in test xs k (and-true-right (test x) (every test xs) e) (omega arith)
+
+module _ (s : Sizes) (b : Bench) (e : firstDue (handedIn true true simplices s b) ≡ accepted) where
+  counts : countsHold simplices s b ≡ true
+  unfolding handedIn
+  counts = and-true-left (countsHold simplices s b) true (not-false _ (none-due (handedIn true true simplices s b) e .0))
+
+  numbers : numbersHold (s .vertices) (rowsOf simplices s b) ≡ true
+  unfolding handedIn
+  numbers = not-false _ (none-due (handedIn true true simplices s b) e .1 .1 .1 .0)
+
+  pub positions-stand : 4 * s .vertices ≤ length (b .positions)
+  positions-stand = counts-positions simplices s b counts
+
+  elements : (corners n : ℕ) (words : List ℕ) → suc corners * n ≤ length words
+      → every (λ (r : ElementRow). every (goodNumber (s .vertices)) (r .corners)) (firstOf (elementRow corners words) n) ≡ true
+      → Elements words corners n (s .vertices)
+  unfolding elementRow goodNumber
+  elements corners n words room q =
+      record {
+        room = room;
+        below = λ i h k l.
+            let start = suc corners * i in
+            let row = every-at (λ (r : ElementRow). every (goodNumber (s .vertices)) (r .corners)) (elementRow corners words) n i q h in
+            let long : length (take corners (drop start words)) ≡ corners
+            = length-part words start corners (omega (arith, mul-suc (suc corners) i, mul-le-mul-left (suc corners) h)) in
+            let good = every-in (goodNumber (s .vertices)) (take corners (drop start words)) k row (omega arith) in
+            subst (λ (v : ℕ). v < s .vertices) (getD-take corners (drop start words) k 0 l ∙ getD-drop start words k 0) (ltb-true _ _ good);
+      }
+
+  pub areas-stand : Elements (b .areas) 3 (s .areas) (s .vertices)
+  unfolding numbersHold rowsOf
+  areas-stand =
+      let inside : ElementRow → Bool = λ r. every (goodNumber (s .vertices)) (r .corners) in
+      let rows = rowsOf simplices s b in
+      let p = every (goodNumber (s .vertices)) (rows .points) && every inside (rows .lines) in
+      let a = every inside (rows .areas) in
+      let v = every inside (rows .volumes) in
+      elements 3 (s .areas) (b .areas) (counts-marked simplices s b counts .listed .area .room)
+      (and-true-right p a (and-true-left (p && a) v (and-true-left (p && a && v) _ numbers)))
+
+  pub volumes-stand : Elements (b .volumes) 4 (s .volumes) (s .vertices)
+  unfolding numbersHold rowsOf
+  volumes-stand =
+      let inside : ElementRow → Bool = λ r. every (goodNumber (s .vertices)) (r .corners) in
+      let rows = rowsOf simplices s b in
+      let p = every (goodNumber (s .vertices)) (rows .points) && every inside (rows .lines) && every inside (rows .areas) in
+      let v = every inside (rows .volumes) in
+      elements 4 (s .volumes) (b .volumes) (counts-marked simplices s b counts .listed .volume .room)
+      (and-true-right p v (and-true-left (p && v) _ numbers))
+
+-- ---- the answers
+
+module _ (width : ℕ) (s : Sizes) (b : Bench) (words out : List Float) where
+  -- refused for a list handed in
+  pub refuses : {ended : Ended} {k : ℕ} → verdictOf ended ≡ firstDue (handedIn true true simplices s b) → ended ≡ Refused k
+      → _≡_ {A = Shaded} (record { verdict = verdictOf ended; out = out }) (shadedBy (shadingVerdict width s b out) words out)
+  unfolding verdictOf shadingVerdict
+  refuses {ended} {k} j e =
+      let more = due 10 (not (leb (s .vertices) (length out / width))) ∷ [] in
+      let v = refused-before (handedIn true true simplices s b) more k (sym j ∙ ap verdictOf e) in
+      ap (λ (x : Verdict). record { verdict = x; out = out }) (ap verdictOf e) ∙ sym (ap (λ (x : Verdict). shadedBy x words out) v)
+
+  module _ (a : firstDue (handedIn true true simplices s b) ≡ accepted) where
+    -- fewer cells than vertices
+    pub short : length out / width < s .vertices
+        → _≡_ {A = Shaded} (record { verdict = verdictOf (Refused 10); out = out }) (shadedBy (shadingVerdict width s b out) words out)
+    unfolding verdictOf shadingVerdict firstDue
+    short h =
+        let test = leb (s .vertices) (length out / width) in
+        let v = accepted-before (handedIn true true simplices s b) (due 10 (not test) ∷ []) a in
+        let l : test ≡ false = lt-leb (s .vertices) (length out / width) h in
+        sym (ap (λ (x : Verdict). shadedBy x words out) (v ∙ ap (λ (t : Bool). firstDue (due 10 (not t) ∷ [])) l))
+
+    -- enough: every cell is written
+    pub fits : s .vertices ≤ length out / width → (after : List Float) → after ≡ over out words
+        → _≡_ {A = Shaded} (record { verdict = verdictOf Finished; out = after }) (shadedBy (shadingVerdict width s b out) words out)
+    unfolding verdictOf shadingVerdict firstDue
+    fits h after e =
+        let test = leb (s .vertices) (length out / width) in
+        let v = accepted-before (handedIn true true simplices s b) (due 10 (not test) ∷ []) a in
+        let l : test ≡ true = le-leb (s .vertices) (length out / width) h in
+        ap (λ (x : List Float). record { verdict = accepted; out = x }) e
+        ∙ sym (ap (λ (x : Verdict). shadedBy x words out) (v ∙ ap (λ (t : Bool). firstDue (due 10 (not t) ∷ [])) l))
+
+-- the normals of the vertices that are stated, as those of the mesh that the rows stand for
+module _ (s : Sizes) (b : Bench) (out after : List Float) where
+  pub of-mesh3 : after ≡ over out (flatMap cells3 (firstOf (λ (v : ℕ). normalised3 (gather3 (verticesOf (b .positions) (b .marks) (s .vertices)) v (elementsOf 3 (b .areas) (s .areas)) origin3)) (s .vertices)))
+      → after ≡ over out (flatMap cells3 (normals3 (meshOf (rowsOf simplices s b))))
+  unfolding normals3 rowsOf meshOf
+  of-mesh3 e =
+      e ∙ ap (λ (n : ℕ). over out (flatMap cells3 (firstOf (λ (v : ℕ). normalised3 (gather3 (verticesOf (b .positions) (b .marks) (s .vertices)) v (elementsOf 3 (b .areas) (s .areas)) origin3)) n)))
+      (sym (vertex-count simplices s b))
+
+  pub of-mesh4 : after ≡ over out (flatMap cells4 (firstOf (λ (v : ℕ). normalised4 (gather4 (verticesOf (b .positions) (b .marks) (s .vertices)) v (elementsOf 4 (b .volumes) (s .volumes)) Points4.origin)) (s .vertices)))
+      → after ≡ over out (flatMap cells4 (normals4 (meshOf (rowsOf simplices s b))))
+  unfolding normals4 rowsOf meshOf
+  of-mesh4 e =
+      e ∙ ap (λ (n : ℕ). over out (flatMap cells4 (firstOf (λ (v : ℕ). normalised4 (gather4 (verticesOf (b .positions) (b .marks) (s .vertices)) v (elementsOf 4 (b .volumes) (s .volumes)) Points4.origin)) n)))
+      (sym (vertex-count simplices s b))

@@ -1,0 +1,2 @@
+-- The lent normals as cells, and what an element adds to each vertex.
+pub mod Cells

@@ -1,2 +1,0 @@
--- What this program's contracts cite.
-pub mod Parts

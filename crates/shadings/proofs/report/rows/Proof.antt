@@ -1,0 +1,34 @@
+-- `shadings::report::rows` prints and ends; the measure is what is left of the vertices. Assumes nothing.
+use Prim.Native.Nat.{_-_, _≤_}
+use borrow.Author.Needs.{needs}
+use Rattle.shadings.proofs.report.rows.Statement.{statement}
+use Rattle.shadings.proofs.report.rows.Tie as tie
+
+abbrev Inv-loop : tie.InvT-loop
+Inv-loop components list n i₀ i = i ≤ n
+
+abbrev μ-loop : tie.MeasureT-loop
+μ-loop components list n i₀ i = n - i
+
+loop-holds : tie.Need-loop-holds Inv-loop μ-loop
+loop-holds c = search needs
+
+normal-requires : tie.Need-normal-requires Inv-loop μ-loop
+normal-requires c κs = search needs
+
+add-i : tie.Need-add-i Inv-loop μ-loop
+add-i c = search needs
+
+loop-less : tie.Need-loop-less Inv-loop μ-loop
+loop-less c = search needs
+
+loop-again : tie.Need-loop-again Inv-loop μ-loop
+loop-again c = search needs
+
+returns : tie.Need-returns Inv-loop μ-loop
+returns c = search needs
+
+pub rows-spec : {M : Type 1} → statement M
+rows-spec =
+    tie.close
+    (tie.spec Inv-loop μ-loop loop-holds normal-requires add-i loop-less loop-again returns)
