@@ -2,10 +2,10 @@
 -- Assumes nothing.
 use mathlib.Core.Path.{_≡_, refl, sym, _∙_}
 use mathlib.Core.List.{List}
-use Prim.Native.Nat.{ℕ, _<_}
+use Prim.Native.Nat.{ℕ, zero, suc, _<_}
 use native.Mathlib.Omega.{arith}
 use lib.Dec.{eqb}
-use lib.ListN.{drop}
+use lib.ListN.{getD, drop}
 use borrow.Author.Tests.{eq-eqb, ne-eqb, lt-leb}
 use Rattle.geom.specs.declared.answer.Sizes.{Sizes}
 use Rattle.geom.specs.declared.answer.Opened.{Opened}
@@ -14,28 +14,52 @@ use Rattle.geom.specs.declared.kind.Kind as Declared
 use Rattle.geom.specs.Book.{Kind, cubes, simplices}
 use Rattle.geom.specs.Kinds.{kindOf}
 use Rattle.geom.specs.File.{Read, Reader, Figure, read, stop, andThen, _>>=_, judged, byte, kindField, figure}
-use Rattle.fields.specs.Fields.{Reads}
+use Rattle.fields.specs.Fields.{Reads, Gives}
+use Rattle.fields.specs.declared.field.Field.{Field}
+use Rattle.fields.specs.declared.field.Field.the-variants as Field
+use Rattle.fields.proofs.Reading.{stopped}
 use Rattle.figure.specs.declared.judging.Found.{Found}
 use Rattle.figure.specs.declared.judging.Found.the-variants as Found
-use Rattle.figure.specs.Places.{opening, lying, Kinds, Opens, Lies, Finds}
+use Rattle.figure.specs.Places.{opening, lying, kindIn, Opens, Lies, Finds}
 
 -- ---- the kind
 
 module _ (bytes : List ℕ) (x : ℕ) (r : Reads bytes 1 2 x byte) (v : ℕ) (e : v ≡ x) where
-  pub kind-cubes : v ≡ 0 → kindField (drop 1 bytes) ≡ read cubes (drop 2 bytes)
+  kind-cubes : v ≡ 0 → kindField (drop 1 bytes) ≡ read cubes (drop 2 bytes)
   unfolding kindField judged
   kind-cubes h = let z : x ≡ 0 = omega arith in rw (r .reads, z) refl
 
-  pub kind-simplices : v ≡ 1 → kindField (drop 1 bytes) ≡ read simplices (drop 2 bytes)
+  kind-simplices : v ≡ 1 → kindField (drop 1 bytes) ≡ read simplices (drop 2 bytes)
   unfolding kindField judged
   kind-simplices h = let z : x ≡ 1 = omega arith in rw (r .reads, z) refl
 
-  pub kind-other : (v ≡ 0 → ⊥) → (v ≡ 1 → ⊥) → kindField (drop 1 bytes) ≡ stop 2
+  kind-other : (v ≡ 0 → ⊥) → (v ≡ 1 → ⊥) → kindField (drop 1 bytes) ≡ stop 2
   unfolding kindField judged
   kind-other h l = rw (r .reads, lt-leb x 1 (rw e at (above v h l))) refl
     where
       above : (v : ℕ) → (v ≡ 0 → ⊥) → (v ≡ 1 → ⊥) → 1 < v
       above v h l = omega (arith, h, l)
+
+pub kind-names : (v : ℕ) → (v ≡ 0 → ⊥) → (v ≡ 1 → ⊥) → Refused 2 ≡ kindIn (Field.Value v)
+kind-names zero h l = absurd (h refl)
+kind-names (suc zero) h l = absurd (l refl)
+kind-names (suc (suc n)) h l = refl
+
+-- what the kind's reader answers behind the version
+abbrev Kinds : Opened → List ℕ → Type 0
+Kinds Cubes bytes = kindField (drop 1 bytes) ≡ read cubes (drop 2 bytes)
+Kinds Simplices bytes = kindField (drop 1 bytes) ≡ read simplices (drop 2 bytes)
+Kinds (Refused n) bytes = kindField (drop 1 bytes) ≡ stop n
+
+kind-stops : (bytes : List ℕ) (n : ℕ) → byte (drop 1 bytes) ≡ stop n → kindField (drop 1 bytes) ≡ stop n
+unfolding kindField
+kind-stops bytes n g = stopped byte _ _ _ g
+
+kinds : (bytes : List ℕ) (x : ℕ) (f : Field) → Gives f bytes 1 2 x byte → Kinds (kindIn f) bytes
+kinds bytes x (Field.Value zero) g = kind-cubes bytes x (g .1) 0 (g .0) refl
+kinds bytes x (Field.Value (suc zero)) g = kind-simplices bytes x (g .1) 1 (g .0) refl
+kinds bytes x (Field.Value (suc (suc n))) g = kind-other bytes x (g .1) (suc (suc n)) (g .0) (λ e. omega (arith, e)) (λ e. omega (arith, e))
+kinds bytes x (Field.Refused n) g = kind-stops bytes n g
 
 -- ---- the version
 
@@ -48,10 +72,14 @@ module _ (bytes : List ℕ) (x : ℕ) (r : Reads bytes 0 1 x byte) (v : ℕ) (e 
   unfolding opening judged
   version-one h = rw (r .reads, eq-eqb x 1 (sym e ∙ h)) refl
 
-  pub version-opens : v ≡ 1 → (o : Opened) → Kinds o bytes → Opens o bytes
-  version-opens h Cubes k = version-one h ∙ k
-  version-opens h Simplices k = version-one h ∙ k
-  version-opens h (Refused n) k = version-one h ∙ k
+  opens : v ≡ 1 → (o : Opened) → Kinds o bytes → Opens o bytes
+  opens h Cubes k = version-one h ∙ k
+  opens h Simplices k = version-one h ∙ k
+  opens h (Refused n) k = version-one h ∙ k
+
+  -- the kind byte is the next
+  pub version-opens : v ≡ 1 → (o : Opened) (f : Field) → o ≡ kindIn f → Gives f bytes 1 2 (getD bytes 1 0) byte → Opens o bytes
+  version-opens h o f is g = rw is (opens h (kindIn f) (kinds bytes (getD bytes 1 0) f g))
 
 -- ---- the whole
 

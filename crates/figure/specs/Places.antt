@@ -3,7 +3,7 @@
 -- Assumes nothing.
 use mathlib.Core.Path.{_≡_}
 use mathlib.Core.List.{List, []}
-use Prim.Native.Nat.{ℕ, _+_, _*_, _≤_, _<_}
+use Prim.Native.Nat.{ℕ, zero, suc, _+_, _*_, _≤_, _<_}
 use lib.Dec.{eqb}
 use lib.ListN.{length, drop}
 use Rattle.geom.specs.declared.answer.Sizes.{Sizes}
@@ -16,6 +16,8 @@ use Rattle.geom.specs.Mesh.{Mesh, sizesOf}
 use Rattle.geom.specs.Memory.{areaCorners, volumeCorners}
 use Rattle.geom.specs.File.{Reader, Figure, read, stop, _>>=_, judged, byte, kindField, lists, end, figure}
 use Rattle.fields.specs.Fields.{wordAt, verticesAt, numbersAt, wide, elementsAt, curvePlace, curvesAt}
+use Rattle.fields.specs.declared.field.Field.{Field}
+use Rattle.fields.specs.declared.field.Field.the-variants as Field
 use Rattle.figure.specs.declared.judging.Found.{Found}
 use Rattle.figure.specs.declared.judging.Found.the-variants as Found
 
@@ -65,12 +67,14 @@ opening = do
   _ ← judged 1 (eqb v 1) v
   kindField
 
--- the kind that was read, or the number by which the reader stops
-abbrev pub Kinds : Opened → List ℕ → Type 0
-Kinds Opened.Cubes bytes = kindField (drop 1 bytes) ≡ read cubes (drop 2 bytes)
-Kinds Opened.Simplices bytes = kindField (drop 1 bytes) ≡ read simplices (drop 2 bytes)
-Kinds (Opened.Refused n) bytes = kindField (drop 1 bytes) ≡ stop n
+-- what a kind byte opens, or the number by which it wasn't read
+abbrev pub kindIn : Field → Opened
+kindIn (Field.Value zero) = Opened.Cubes
+kindIn (Field.Value (suc zero)) = Opened.Simplices
+kindIn (Field.Value (suc (suc _))) = Opened.Refused 2
+kindIn (Field.Refused n) = Opened.Refused n
 
+-- the kind that was read, or the number by which the reader stops
 abbrev pub Opens : Opened → List ℕ → Type 0
 Opens Opened.Cubes bytes = opening bytes ≡ read cubes (drop 2 bytes)
 Opens Opened.Simplices bytes = opening bytes ≡ read simplices (drop 2 bytes)

@@ -1,12 +1,13 @@
 // The walk that judges a file: version and kind, each list, and that nothing is left over. Nothing is written.
+ghost use mathlib.Core.Path.{_≡_};
 ghost use Rattle.geom.specs.Book as Book;
 ghost use Rattle.judge.specs.Counts.{cellsOf};
-ghost use Rattle.figure.specs.Places.{Kinds, Opens, Lies, Finds};
+ghost use Rattle.figure.specs.Places.{kindIn, Opens, Lies, Finds};
 use fields::field::Field;
 use fields::listed::element_list;
 use fields::listed::point_list;
 use fields::listed::vertex_list;
-use fields::reader::byte;
+use fields::reader::two_bytes;
 use fields::rows::counted;
 use fields::rows::curves as curve_list;
 use geom::answer::Opened;
@@ -24,10 +25,10 @@ pub enum Found {
 }
 
 // 2: the kind byte, 0 cubes, 1 simplices.
-pub fn kind_byte(file: &[u8]) -> Opened
-    ensures { λ r. ⌜ Kinds r (now (file .entry)) ⌝ }
+pub fn kind_byte(field: Field) -> Opened
+    ensures { λ r. ⌜ r ≡ kindIn field ⌝ }
 {
-    match byte(file, 1) {
+    match field {
         Field::Value(kind) => {
             if kind == 0 {
                 return Opened::Cubes;
@@ -41,16 +42,19 @@ pub fn kind_byte(file: &[u8]) -> Opened
     }
 }
 
-// 1: the version byte; then the kind.
+// 1: the version byte; then the kind. One reader has read both, and the version is judged first.
 pub fn header(file: &[u8]) -> Opened
     ensures { λ r. ⌜ Opens r (now (file .entry)) ⌝ }
 {
-    match byte(file, 0) {
+    let two = two_bytes(file, 0);
+    let first = two.first;
+    let second = two.second;
+    match first {
         Field::Value(version) => {
             if version != 1 {
                 return Opened::Refused(1);
             }
-            kind_byte(file)
+            kind_byte(second)
         }
         Field::Refused(n) => Opened::Refused(n),
     }

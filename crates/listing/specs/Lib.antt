@@ -1,0 +1,4 @@
+-- texts in a lent buffer
+pub mod Text
+-- the whole listing
+pub mod Printed
