@@ -95,6 +95,13 @@ fn lengthen(bench: &mut Bench, words: [usize; 8], rng: &mut Rng) {
     }
 }
 
+/// A bench of so many words in each slice, any.
+pub fn any_bench(rng: &mut Rng, words: [usize; 8]) -> Bench {
+    let mut bench = Bench::default();
+    lengthen(&mut bench, words, rng);
+    bench
+}
+
 /// So many cells with any words.
 pub fn any_words(rng: &mut Rng, length: usize) -> Vec<u32> {
     (0..length).map(|_| rng.draw() as u32).collect()
@@ -131,8 +138,7 @@ impl Case {
     /// The lent words as the caller hands them in.
     pub fn desk(&self) -> Desk {
         let (first, mut rng) = self.given.bench();
-        let mut second = Bench::default();
-        lengthen(&mut second, self.second, &mut rng);
+        let second = any_bench(&mut rng, self.second);
         let mut filled = |length: usize| any_words(&mut rng, length);
         Desk {
             first,

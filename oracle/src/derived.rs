@@ -3,7 +3,7 @@
 //! Flat normals are left out of the comparison with the Rust, which has NaN or infinities there: here they are +0 in every place.
 use crate::{
     case::{any_words, row_words, Given},
-    damage::hurt,
+    damage::{hurt, DAMAGES},
     draw::{damages, last_steps, Drawn},
     exports,
     refinement::{described, same_bench, same_words, Compared},
@@ -231,7 +231,7 @@ fn draw(rng: &mut Rng, entry: Entry) -> Drawn<Call> {
             *words += rng.below(3 * row);
         }
     }
-    let damages = damages(rng, |rng, which| hurt(rng, &mut given, which));
+    let damages = damages(rng, 4, &DAMAGES, |rng, which| hurt(rng, &mut given, which));
     Drawn {
         case: Call { entry, given, lent },
         lending,
@@ -346,7 +346,7 @@ fn count_dots<const N: usize>(
 #[cfg(test)]
 mod tests {
     use super::*;
-    use crate::{damage::DAMAGES, desk::flip};
+    use crate::desk::flip;
     use reference::mesh::Vertex;
 
     const CASES: u64 = 20_000;

@@ -12,7 +12,7 @@ pub struct Desk {
     pub tallies: Vec<u32>,
 }
 
-/// The answer's words: the refusal's number, 0 when finished; the passes, then the sizes.
+/// The answer's words: the refusal's number, 0 when finished; the passes, or the kind that was read, then the sizes.
 #[derive(Copy, Clone, Debug, PartialEq, Eq)]
 pub struct Told {
     pub number: u8,

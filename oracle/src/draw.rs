@@ -42,7 +42,7 @@ pub fn draw(rng: &mut Rng, kind: Kind) -> Drawn<Case> {
     let mut case = Case::new(mesh, &sizes(&cells), cells[7], shape.depth, smooth_time);
     case.given.fill = rng.draw();
     free_words(rng, &mut case);
-    let damages = damages(rng, |rng, which| damage(rng, &mut case, which));
+    let damages = damages(rng, 4, &DAMAGES, |rng, which| damage(rng, &mut case, which));
     Drawn {
         case,
         lending,
@@ -50,18 +50,20 @@ pub fn draw(rng: &mut Rng, kind: Kind) -> Drawn<Case> {
     }
 }
 
-/// Things that go wrong, one in four times: each is done by `damage` if the case has a place for it.
+/// Things of a list that go wrong, once in so many times: each is done by `damage` if the case has a place for it.
 pub fn damages(
     rng: &mut Rng,
+    times: usize,
+    things: &[&'static str],
     mut damage: impl FnMut(&mut Rng, usize) -> Option<()>,
 ) -> Vec<&'static str> {
-    if !rng.once_in(4) {
+    if !rng.once_in(times) {
         return vec![];
     }
     let mut one = |rng: &mut Rng| loop {
-        let which = rng.below(DAMAGES.len());
+        let which = rng.below(things.len());
         if damage(rng, which).is_some() {
-            return DAMAGES[which];
+            return things[which];
         }
     };
     (0..rng.pick(&[1, 1, 1, 2, 3])).map(|_| one(rng)).collect()

@@ -240,3 +240,90 @@ pub fn derive(entry: Entry, bench: &mut Bench, sizes: &Sizes, lists: &mut [Vec<u
         (entry, lists) => panic!("{entry:?} writes no {} lists", lists.len()),
     }
 }
+
+extern "C" {
+    fn aljumeste_read(
+        file: *const u8,
+        file_bytes: usize,
+        positions: *mut f32,
+        positions_words: usize,
+        marks: *mut u32,
+        marks_words: usize,
+        points: *mut u32,
+        points_words: usize,
+        lines: *mut u32,
+        lines_words: usize,
+        areas: *mut u32,
+        areas_words: usize,
+        volumes: *mut u32,
+        volumes_words: usize,
+        curves: *mut u32,
+        curves_words: usize,
+        steps: *mut u32,
+        steps_words: usize,
+        other_positions: *const f32,
+        other_positions_words: usize,
+        other_marks: *const u32,
+        other_marks_words: usize,
+        other_points: *const u32,
+        other_points_words: usize,
+        other_lines: *const u32,
+        other_lines_words: usize,
+        other_areas: *const u32,
+        other_areas_words: usize,
+        other_volumes: *const u32,
+        other_volumes_words: usize,
+        other_curves: *const u32,
+        other_curves_words: usize,
+        other_steps: *const u32,
+        other_steps_words: usize,
+        answer: &mut [usize; 8],
+    ) -> u8;
+}
+
+/// Reads a file onto the first bench. File and second bench are borrowed as if they might change, so that a comparison sees that they
+/// don't.
+pub fn read(file: &mut [u8], first: &mut Bench, second: &mut Bench) -> Told {
+    // Words that no answer has.
+    let mut answer = [usize::MAX; 8];
+    let number = unsafe {
+        aljumeste_read(
+            file.as_mut_ptr(),
+            file.len(),
+            first.pos.as_mut_ptr().cast(),
+            first.pos.len(),
+            first.marks.as_mut_ptr(),
+            first.marks.len(),
+            first.points.as_mut_ptr(),
+            first.points.len(),
+            first.lines.as_mut_ptr(),
+            first.lines.len(),
+            first.areas.as_mut_ptr(),
+            first.areas.len(),
+            first.volumes.as_mut_ptr(),
+            first.volumes.len(),
+            first.curves.as_mut_ptr(),
+            first.curves.len(),
+            first.curve_verts.as_mut_ptr(),
+            first.curve_verts.len(),
+            second.pos.as_mut_ptr().cast(),
+            second.pos.len(),
+            second.marks.as_mut_ptr(),
+            second.marks.len(),
+            second.points.as_mut_ptr(),
+            second.points.len(),
+            second.lines.as_mut_ptr(),
+            second.lines.len(),
+            second.areas.as_mut_ptr(),
+            second.areas.len(),
+            second.volumes.as_mut_ptr(),
+            second.volumes.len(),
+            second.curves.as_mut_ptr(),
+            second.curves.len(),
+            second.curve_verts.as_mut_ptr(),
+            second.curve_verts.len(),
+            &mut answer,
+        )
+    };
+    Told { number, answer }
+}

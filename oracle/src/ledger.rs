@@ -70,18 +70,18 @@ fn lending(rng: &mut Rng, needs: &[Cells]) -> Cells {
 }
 
 /// What a mesh has shown that is as demand 3 says.
-struct Seen {
+pub struct Seen {
     number: u8,
     passes: usize,
-    before: Ledger,
-    after: Ledger,
+    pub before: Ledger,
+    pub after: Ledger,
     /// How many volumes were handed in.
-    volumes: usize,
+    pub volumes: usize,
     left: Mesh,
 }
 
 /// Refines a case and holds demand 3 against it: what there was to see, or in words where it fails.
-fn check(case: &Case) -> Result<Seen, String> {
+pub fn check(case: &Case) -> Result<Seen, String> {
     let (told, left) = run(case)?;
     let passes = whole_passes(case, &told)?;
     let (before, after) = hold(&case.given.mesh, passes, &left)?;

@@ -3,7 +3,8 @@
 //!
 //! `all` takes the root of every one of the 2^32 patterns. `spread` takes the roots of a million patterns and normalises a million
 //! vectors of three and of four components. `KIND SEED COUNT` refines so many random meshes of a kind, cubes or simplices; `ENTRY SEED
-//! COUNT` cuts or shades so many, with triangulation, normals3 or normals4. `sample KIND` prints cases with the reference's answers, for
+//! COUNT` cuts or shades so many, with triangulation, normals3 or normals4. `file SEED COUNT` reads so many files of both kinds, and
+//! `sheet SEED COUNT` gives so many inputs to the program of that name. `sample KIND` prints cases with the reference's answers, for
 //! other programs. `bench` measures speed. `ledger SEED COUNT` refines so many meshes of each
 //! kind, and holds the ledgers of what is left against document 01's section 5.
 mod bench;
@@ -15,13 +16,20 @@ mod derived;
 mod desk;
 mod draw;
 mod exports;
+#[cfg(test)]
+mod figures;
 mod ledger;
 mod normal;
+mod program;
 mod random;
+mod reading;
 mod refinement;
 mod root;
 mod sample;
+mod sheet;
 mod shrink;
+mod spoil;
+mod written;
 
 use derived::{Entry, ENTRIES};
 use reference::mesh::Kind;
@@ -102,7 +110,7 @@ fn main() -> ExitCode {
         Some(false) => ExitCode::from(1),
         None => {
             eprintln!("usage: cargo run --release -- all | spread | WHAT SEED COUNT | sample KIND | bench [ENTRY] | bench one WHAT SIZE SIDE | ledger [SEED COUNT]");
-            eprintln!("KIND is cubes or simplices, ENTRY triangulation, normals3 or normals4, WHAT either, SIDE library, original or none");
+            eprintln!("KIND is cubes or simplices, ENTRY triangulation, normals3 or normals4, WHAT either, file or sheet, SIDE library, original or none");
             ExitCode::from(2)
         }
     }
@@ -119,9 +127,11 @@ fn print(found: &[(&str, Compared)]) -> Option<bool> {
 /// Prints what a comparison of random meshes found: whether all agree. None where a word is not understood.
 fn compared(what: &str, seed: &str, cases: &str) -> Option<bool> {
     let (seed, cases) = (seed.parse().ok()?, cases.parse().ok()?);
-    let found = match entry_named(what) {
-        Some(entry) => derived::library(entry, seed, cases),
-        None => refinement::library(kind_named(what)?, seed, cases),
+    let found = match (what, entry_named(what)) {
+        ("file", _) => reading::library(seed, cases),
+        ("sheet", _) => sheet::program(seed, cases),
+        (_, Some(entry)) => derived::library(entry, seed, cases),
+        _ => refinement::library(kind_named(what)?, seed, cases),
     };
     found.print();
     Some(found.apart.is_none())

@@ -202,13 +202,14 @@ fn same_lists(bench: &Bench, mesh: &Mesh) -> Result<(), String> {
 }
 
 #[cfg(test)]
-mod tests {
+pub mod tests {
     use super::*;
     use crate::{
         damage::DAMAGES,
         derived::{self, Call, ENTRIES},
         desk::flip,
         draw::LISTS,
+        reading::{self, Reading},
         KINDS,
     };
     use reference::mesh::{Curve, Element, Vertex, LIMIT};
@@ -263,7 +264,7 @@ mod tests {
     }
 
     /// A mesh at one place: every entry of every list is about vertex 0.
-    fn piled(kind: Kind, sizes: &Sizes) -> Mesh {
+    pub fn piled(kind: Kind, sizes: &Sizes) -> Mesh {
         let [line, area, volume] = kind.corners();
         let elements = |count: usize, corners: usize| {
             let element = Element {
@@ -299,7 +300,7 @@ mod tests {
         }
     }
 
-    /// Of each list 1,048,576 entries are accepted, and one more is refused by 10: the limit is document 01's.
+    /// Of each list 1,048,576 entries are accepted, and one more is refused by 10, in memory and in a file: the limit is document 01's.
     #[test]
     fn lists_at_the_limit_and_beyond_are_handed_in() {
         for kind in KINDS {
@@ -327,6 +328,9 @@ mod tests {
                         let told = derived::differs(&call, &exports::derive);
                         assert_eq!(told, Ok(expected), "{name}, list {list}");
                     }
+                    let file = Reading::new(case.given.mesh, &sizes);
+                    let told = reading::differs(&file, &exports::read);
+                    assert_eq!(told, Ok(expected), "file, {kind:?}, list {list}");
                 }
             }
         }

@@ -1,6 +1,6 @@
 //! From a case that shows something to the smallest one nearby that shows it too.
 use crate::case::{Case, Given};
-use reference::mesh::Mesh;
+use reference::mesh::{Mesh, Vertex};
 use std::cmp::Ordering;
 
 /// What can be made smaller, step by step.
@@ -41,46 +41,56 @@ impl Shrink for Case {
     }
 }
 
-/// An entry less, or a 0 where something else stands.
+/// On a smaller mesh, with its counts where they are the mesh's own; or without a patch. What is lent stays.
 impl Shrink for Given {
     fn smaller(&self) -> Vec<Given> {
-        let mut found = vec![];
-        let mut step = |change: &dyn Fn(&mut Given)| {
-            let mut next = self.clone();
-            change(&mut next);
-            found.push(next);
+        let stated = self.counts == self.mesh.sizes();
+        let on = |mesh: Mesh| Given {
+            counts: if stated { mesh.sizes() } else { self.counts },
+            mesh,
+            ..self.clone()
         };
-        for (list, entries) in self.mesh.sizes().list()[..6].iter().enumerate() {
-            for i in (0..*entries).rev() {
-                step(&|g| without(g, &|m| remove(m, list, i)));
-            }
-        }
-        for i in 0..self.mesh.curves.len() {
-            if self.mesh.curves[i].verts.len() > 1 {
-                step(&|g| without(g, &|m| shorten(m, i)));
-            }
-        }
+        let mut found: Vec<Given> = self.mesh.smaller().into_iter().map(on).collect();
         for i in 0..self.patches.len() {
-            step(&|g| {
-                g.patches.remove(i);
-            });
+            let mut next = self.clone();
+            next.patches.remove(i);
+            found.push(next);
         }
         if self.fill > 0 {
-            step(&|g| g.fill = 0);
-        }
-        for i in 0..self.mesh.verts.len() {
-            plainer(self, i, &mut step);
+            found.push(Given {
+                fill: 0,
+                ..self.clone()
+            });
         }
         found
     }
 }
 
-/// Something of the mesh goes, and the counts with it where they are its own; what is lent stays.
-fn without(given: &mut Given, change: &dyn Fn(&mut Mesh)) {
-    let stated = given.counts == given.mesh.sizes();
-    change(&mut given.mesh);
-    if stated {
-        given.counts = given.mesh.sizes();
+/// An entry less, or a 0 where something else stands.
+impl Shrink for Mesh {
+    fn smaller(&self) -> Vec<Mesh> {
+        let mut found = vec![];
+        let mut step = |change: &dyn Fn(&mut Mesh)| {
+            let mut next = self.clone();
+            change(&mut next);
+            found.push(next);
+        };
+        for (list, entries) in self.sizes().list()[..6].iter().enumerate() {
+            for i in (0..*entries).rev() {
+                step(&|m| remove(m, list, i));
+            }
+        }
+        for i in 0..self.curves.len() {
+            if self.curves[i].verts.len() > 1 {
+                step(&|m| shorten(m, i));
+            }
+        }
+        for (i, vertex) in self.verts.iter().enumerate() {
+            for plainer in plainer(vertex) {
+                step(&|m| m.verts[i] = plainer);
+            }
+        }
+        found
     }
 }
 
@@ -118,20 +128,19 @@ fn shorten(mesh: &mut Mesh, i: usize) {
 }
 
 /// A vertex with a 0 where it has something else.
-fn plainer(given: &Given, i: usize, step: &mut dyn FnMut(&dyn Fn(&mut Given))) {
-    let vertex = given.mesh.verts[i];
-    for axis in 0..4 {
-        if vertex.bits[axis] != 0 {
-            step(&|g| g.mesh.verts[i].bits[axis] = 0);
-        }
-    }
-    if vertex.flags != 0 {
-        step(&|g| g.mesh.verts[i].flags = 0);
-    }
-    if vertex.tag != 0 {
-        step(&|g| g.mesh.verts[i].tag = 0);
-    }
-    if vertex.k != 0 {
-        step(&|g| g.mesh.verts[i].k = 0);
-    }
+fn plainer(vertex: &Vertex) -> Vec<Vertex> {
+    let without = |axis: usize| {
+        let mut bits = vertex.bits;
+        bits[axis] = 0;
+        Vertex { bits, ..*vertex }
+    };
+    let mut found: Vec<Vertex> = (0..4).map(without).collect();
+    found.push(Vertex {
+        flags: 0,
+        ..*vertex
+    });
+    found.push(Vertex { tag: 0, ..*vertex });
+    found.push(Vertex { k: 0, ..*vertex });
+    found.retain(|plainer| plainer != vertex);
+    found
 }

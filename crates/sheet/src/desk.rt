@@ -231,7 +231,7 @@ fn refined(
     refusal(n, passes, out)
 }
 
-// What a file was found to be: a mesh of a kind, or refused with its number.
+// What a file was found to be: a mesh of a kind, or refused with its number. Both kinds go on alike.
 pub enum Found {
     Mesh(Kind),
     Refused(u8),

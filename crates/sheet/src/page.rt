@@ -6,7 +6,7 @@ ghost use Rattle.sheet.specs.Page.{Written};
 use crate::desk::on_first;
 use listing::refusal;
 
-// Room for every text that there is.
+// Room for every text: none has more than 144,395 bytes, which is what 1,024 entries in each list can take.
 pub fn blank() -> [u8; 147456]
     ensures { λ r. ⌜ 147456 ≡ length r ⌝ }
 {
