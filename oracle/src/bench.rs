@@ -63,15 +63,13 @@ impl Ready {
     fn library(&self, desk: &mut Desk) -> Duration {
         let case = &self.case;
         desk.first.put(&case.given.mesh);
-        let began = Instant::now();
-        let told = exports::subdivide(
+        let (told, took) = exports::timed_subdivide(
             case.given.mesh.kind,
             desk,
             &case.given.counts,
             case.depth,
             1,
         );
-        let took = began.elapsed();
         assert_eq!((told.number, told.answer[1]), (0, self.left.verts));
         took
     }
@@ -230,9 +228,7 @@ fn entries(call: &Call) -> usize {
 }
 
 fn derive(call: &Call, (bench, lists): &mut (Bench, Vec<Vec<u32>>)) -> Duration {
-    let began = Instant::now();
-    let told = exports::derive(call.entry, bench, &call.given.counts, lists);
-    let took = began.elapsed();
+    let (told, took) = exports::timed_derive(call.entry, bench, &call.given.counts, lists);
     assert_eq!(told.number, 0);
     took
 }

@@ -3,7 +3,7 @@ use crate::draw::LISTS;
 use reference::memory::Bench;
 
 /// Two benches, the book and smoothing's cells, as raw words; a position's words are the bits of its floats.
-#[derive(Clone, Debug, PartialEq, Eq)]
+#[derive(Clone, Debug, Default, PartialEq, Eq)]
 pub struct Desk {
     pub first: Bench,
     pub second: Bench,

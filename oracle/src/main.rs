@@ -1,5 +1,5 @@
-//! Compares the static library `aljumeste` with Rust's own arithmetic, bit for bit, where a NaN equals any NaN, and with the original
-//! refinements, triangulation and normals in reference/.
+//! Compares the static library `aljumeste`, called through the crate of that name, with Rust's own arithmetic, bit for bit, where a NaN
+//! equals any NaN, and with the original refinements, triangulation and normals in reference/.
 //!
 //! `all` takes the root of every one of the 2^32 patterns. `spread` takes the roots of a million patterns and normalises a million
 //! vectors of three and of four components. `KIND SEED COUNT` refines so many random meshes of a kind, cubes or simplices; `ENTRY SEED
@@ -7,6 +7,8 @@
 //! `sheet SEED COUNT` gives so many inputs to the program of that name. `sample KIND` prints cases with the reference's answers, for
 //! other programs. `bench` measures speed. `ledger SEED COUNT` refines so many meshes of each
 //! kind, and holds the ledgers of what is left against document 01's section 5.
+#![forbid(unsafe_code)]
+
 mod bench;
 mod block;
 mod case;

@@ -371,7 +371,8 @@ normals! {
 /// Reads a file onto the first bench; of the second the lengths alone count. Answers 0 or the refusal's number; and the kind, 0 cubes or 1
 /// simplices, then the sizes, which are 0 after a refusal.
 pub fn read(file: &[u8], first: &mut Bench, second: &Bench) -> Told<8> {
-    let mut answer = [0; 8];
+    // Words that no answer has: after a refusal every word is 0, and one that is not written has to show.
+    let mut answer = [usize::MAX; 8];
     // SAFETY: every pointer has its own list's length; the first bench is lent for the call, apart from what is only read.
     let number = unsafe {
         aljumeste_read(
