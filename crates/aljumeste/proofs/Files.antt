@@ -1,6 +1,6 @@
 -- No refusal of a file is numbered 0, so that the exported number says whether there is a mesh; and the words that say the answer.
 -- Assumes nothing.
-use mathlib.Core.Path.{_≡_, refl, sym, _∙_, ap, subst}
+use mathlib.Core.Path.{_≡_, refl, sym, ap, subst}
 use mathlib.Core.Bool.{Bool, true, false, cond}
 use mathlib.Core.List.{List, [], _∷_}
 use Prim.Native.Nat.{ℕ, zero, suc, _+_}
@@ -13,7 +13,7 @@ use Rattle.geom.specs.Book.{Kind, cubes, simplices}
 use Rattle.geom.specs.File.{Read, read, stop, Reader, andThen, judged, byte, word, several, counted, coordinate, vertex, number, parity, element, line, curveCount, curve, curves, lists, kindField, Figure, end, figure, benchesMatch, Loaded, loadedBy, loaded}
 use Rattle.geom.specs.Memory.{Bench, cells}
 use Rattle.figure.specs.Entry.{outcome}
-use Rattle.aljumeste.specs.Told.{Numbered, sizesFrom, refusalOf, kindWord, Worded, openingFrom}
+use Rattle.aljumeste.specs.Told.{Numbered, sizesFrom, refusalOf, kindWord, Worded, openingFrom, Says, Reads}
 use Rattle.aljumeste.proofs.Numbers.{either, sizesWords}
 
 -- what was read, or a refusal that isn't numbered 0
@@ -169,11 +169,13 @@ reading-worded r after first second bytes q =
 
 pub opening-by : (r : Reading) (n kind : ℕ) → n ≡ refusalOf (judgementOf (r .opened)) → kind ≡ kindWord (judgementOf (r .opened))
     → Worded (judgementOf (r .opened))
-    → openingFrom n (kind ∷ sizesWords (r .sizes)) ≡ openingOf r
+    → Says n (kind ∷ sizesWords (r .sizes)) (openingOf r)
 unfolding openingOf openingFrom sizesFrom sizesWords
 opening-by r n kind p q w =
-    ap (λ (j : Judgement). record { sizes = r .sizes; judgement = j }) (rw (p, q) w)
+    record { opening = ap (λ (j : Judgement). record { sizes = r .sizes; judgement = j }) (rw (p, q) w); kind = q }
 
-pub exported-reading : (after first second : Bench) (bytes : List ℕ) (x y : Opening) → y ≡ x → outcome x after ≡ loaded first second bytes
-    → outcome y after ≡ loaded first second bytes
-exported-reading after first second bytes x y p h = ap (λ (o : Opening). outcome o after) p ∙ h
+pub exported-reading : (n : ℕ) (words : List ℕ) (o : Opening) (after first second : Bench) (bytes : List ℕ) → Says n words o
+    → outcome o after ≡ loaded first second bytes
+    → Reads n words after (loaded first second bytes)
+exported-reading n words o after first second bytes s h =
+    record { says = subst (λ (l : Loaded). Says n words (l .opening)) h s; bench = ap (λ (l : Loaded). l .bench) h }

@@ -9,6 +9,8 @@ use Rattle.geom.specs.declared.answer.Sizes.{Sizes}
 use Rattle.geom.specs.Answers.{Verdict, accepted, refused, Told, Outcome, Judgement, meshOfKind, noMesh, Opening}
 use Rattle.geom.specs.Book.{cubes, simplices}
 use Rattle.geom.specs.File as File
+use Rattle.geom.specs.File.{Loaded}
+use Rattle.geom.specs.Memory.{Bench}
 
 -- seven sizes, from a word on: vertices, points, lines, areas, volumes, curves, curve vertices
 unfoldable pub sizesFrom : ℕ → List ℕ → Sizes
@@ -65,3 +67,13 @@ Worded j = judgementBy (refusalOf j) (kindWord j) ≡ j
 -- the answer of reading: the kind is word 0, the sizes words 1 to 7
 unfoldable pub openingFrom : ℕ → List ℕ → Opening
 openingFrom number words = record { sizes = sizesFrom 1 words; judgement = judgementBy number (getD words 0 0) }
+
+-- a number and words say an opening; after a refusal, where there is no kind, its word is 0
+pub record Says (number : ℕ) (words : List ℕ) (o : Opening) : Type 0 where
+  pub opening : openingFrom number words ≡ o
+  pub kind : getD words 0 0 ≡ kindWord (o .judgement)
+
+-- reading answers and leaves what it should
+pub record Reads (number : ℕ) (words : List ℕ) (after : Bench) (l : Loaded) : Type 0 where
+  pub says : Says number words (l .opening)
+  pub bench : after ≡ l .bench

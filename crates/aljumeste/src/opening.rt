@@ -3,8 +3,7 @@ ghost use mathlib.Core.Path.{_≡_};
 ghost use Rattle.geom.specs.Answers.{judgementOf, openingOf};
 ghost use Rattle.geom.specs.File.{loaded};
 ghost use Rattle.judge.specs.Judged.{bench};
-ghost use Rattle.figure.specs.Entry.{outcome};
-ghost use Rattle.aljumeste.specs.Told.{refusalOf, kindWord, Worded, openingFrom};
+ghost use Rattle.aljumeste.specs.Told.{refusalOf, kindWord, Worded, Says, Reads};
 use figure::load;
 use geom::answer::Opened;
 use geom::answer::Reading;
@@ -34,7 +33,7 @@ fn refusal(opened: Opened) -> u8
 // Writes an answer as eight words, the kind and the sizes, and gives the number.
 fn tell_reading(r: Reading, answer: &mut [usize; 8]) -> u8
     requires { ⌜ Worded (judgementOf (r .opened)) ⌝ }
-    ensures { λ n. ⌜ openingFrom n (now (answer .exit)) ≡ openingOf r ⌝ }
+    ensures { λ n. ⌜ Says n (now (answer .exit)) (openingOf r) ⌝ }
 {
     let sizes = r.sizes;
     let opened = r.opened;
@@ -75,7 +74,7 @@ pub extern "C" fn aljumeste_read(
     other_steps: &[u32],
     answer: &mut [usize; 8],
 ) -> u8
-    ensures { λ r. ⌜ outcome (openingFrom r (now (answer .exit))) (bench (now (positions .exit)) (now (marks .exit)) (now (points .exit)) (now (lines .exit)) (now (areas .exit)) (now (volumes .exit)) (now (curves .exit)) (now (steps .exit))) ≡ loaded (bench (now (positions .entry)) (now (marks .entry)) (now (points .entry)) (now (lines .entry)) (now (areas .entry)) (now (volumes .entry)) (now (curves .entry)) (now (steps .entry))) (bench (now («other_positions» .entry)) (now («other_marks» .entry)) (now («other_points» .entry)) (now («other_lines» .entry)) (now («other_areas» .entry)) (now («other_volumes» .entry)) (now («other_curves» .entry)) (now («other_steps» .entry))) (now (file .entry)) ⌝ }
+    ensures { λ r. ⌜ Reads r (now (answer .exit)) (bench (now (positions .exit)) (now (marks .exit)) (now (points .exit)) (now (lines .exit)) (now (areas .exit)) (now (volumes .exit)) (now (curves .exit)) (now (steps .exit))) (loaded (bench (now (positions .entry)) (now (marks .entry)) (now (points .entry)) (now (lines .entry)) (now (areas .entry)) (now (volumes .entry)) (now (curves .entry)) (now (steps .entry))) (bench (now («other_positions» .entry)) (now («other_marks» .entry)) (now («other_points» .entry)) (now («other_lines» .entry)) (now («other_areas» .entry)) (now («other_volumes» .entry)) (now («other_curves» .entry)) (now («other_steps» .entry))) (now (file .entry))) ⌝ }
 {
     let reading = load(
         file,

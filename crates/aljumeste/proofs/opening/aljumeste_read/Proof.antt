@@ -35,7 +35,7 @@ same-length-8 : tie.Need-same-length-8
 same-length-8 c = search needs
 
 returns : tie.Need-returns
-returns c = exported-reading _ _ _ _ _ _ (c .tell-reading .ensures) (c .before .before .before .before .before .before .before .before .before .before .before .before .before .before .before .before .before .before .load .ensures)
+returns c = exported-reading _ _ _ _ _ _ _ (c .tell-reading .ensures) (c .before .before .before .before .before .before .before .before .before .before .before .before .before .before .before .before .before .before .load .ensures)
 
 pub aljumeste-read-spec : {M : Type 1} → statement M
 aljumeste-read-spec =

@@ -48,7 +48,7 @@ use denote.Triple.Walked.{says, Stays, stay-ref, walkOf, goes-ref, Walks, ends-a
 use denote.Triple.Clauses.{ensured, lasts}
 use Rattle.geom.specs.File.{byte}
 use Rattle.fields.specs.Fields.{Gives}
-use Rattle.fields.specs.Walk.{pastOf, moved}
+use Rattle.fields.specs.Walk.{pastOf}
 use Rattle.fields.specs.declared.reader.Reader.{Reader}
 use Rattle.fields.specs.declared.field.Field.{Field}
 use Rattle.fields.proofs.Walk.{past-fits}
