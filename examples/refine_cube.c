@@ -40,43 +40,63 @@ static char letter(uint32_t parity) {
     return parity == 0 ? 'e' : 'o';
 }
 
-static void print_vertices(const float *positions, size_t count) {
-    for (size_t v = 0; v < count; v++) {
+/* What is left of a list: so many words from its first on. */
+struct words {
+    const uint32_t *at;
+    size_t count;
+};
+
+static struct words left_of(
+    const uint32_t *one, size_t one_words, const uint32_t *other, size_t other_words, uint8_t passes, size_t words) {
+    size_t place[2];
+    aljumeste_left(one, one_words, other, other_words, passes, words, place);
+    return (struct words){place[0] == 0 ? one : other, place[1]};
+}
+
+#define LEFT(list, row, size) left_of(WORDS(first.list), WORDS(second.list), passes, (row) * (size))
+
+static void print_vertices(uint8_t passes, size_t count) {
+    size_t place[2];
+    aljumeste_left_positions(WORDS(first.positions), WORDS(second.positions), passes, 4 * count, place);
+    const float *positions = place[0] == 0 ? first.positions : second.positions;
+    for (size_t i = 0; i < place[1]; i += 4) {
         uint32_t bits[4];
-        memcpy(bits, positions + 4 * v, sizeof bits);
-        printf("v %zu", v);
+        memcpy(bits, positions + i, sizeof bits);
+        printf("v %zu", i / 4);
         for (size_t axis = 0; axis < 4; axis++) printf(" %08" PRIX32, bits[axis]);
         printf("\n");
     }
 }
 
-static void print_elements(char name, const uint32_t *rows, size_t count, size_t corners) {
-    for (; count > 0; count--, rows += corners + 1) {
+static void print_elements(char name, struct words rows, size_t corners) {
+    for (size_t i = 0; i < rows.count; i += corners + 1) {
         printf("%c", name);
-        for (size_t c = 0; c < corners; c++) printf(" %" PRIu32, rows[c]);
-        printf(" %c\n", letter(rows[corners]));
+        for (size_t c = 0; c < corners; c++) printf(" %" PRIu32, rows.at[i + c]);
+        printf(" %c\n", letter(rows.at[i + corners]));
     }
 }
 
 /* A curve's vertices, then the parities of its steps; the last vertex has none. */
-static void print_curves(const uint32_t *curves, const uint32_t *steps, size_t count) {
-    for (size_t c = 0; c < count; c++) {
-        uint32_t length = curves[2 * c + 1];
+static void print_curves(struct words curves, struct words steps) {
+    const uint32_t *step = steps.at;
+    for (size_t c = 0; c < curves.count; c += 2) {
+        uint32_t length = curves.at[c + 1];
         printf("c");
-        for (uint32_t i = 0; i < length; i++) printf(" %" PRIu32, steps[2 * i]);
-        for (uint32_t i = 0; i + 1 < length; i++) printf(" %c", letter(steps[2 * i + 1]));
+        for (uint32_t i = 0; i < length; i++) printf(" %" PRIu32, step[2 * i]);
+        for (uint32_t i = 0; i + 1 < length; i++) printf(" %c", letter(step[2 * i + 1]));
         printf("\n");
-        steps += 2 * (size_t)length;
+        step += 2 * (size_t)length;
     }
 }
 
-static void print_listing(const struct bench *mesh, const size_t *left) {
-    print_vertices(mesh->positions, left[ALJUMESTE_VERTICES]);
-    for (size_t p = 0; p < left[ALJUMESTE_POINTS]; p++) printf("p %" PRIu32 "\n", mesh->points[p]);
-    print_elements('l', mesh->lines, left[ALJUMESTE_LINES], 2);
-    print_elements('a', mesh->areas, left[ALJUMESTE_AREAS], 4);
-    print_elements('s', mesh->volumes, left[ALJUMESTE_VOLUMES], 8);
-    print_curves(mesh->curves, mesh->steps, left[ALJUMESTE_CURVES]);
+static void print_listing(uint8_t passes, const size_t *sizes_left) {
+    print_vertices(passes, sizes_left[ALJUMESTE_VERTICES]);
+    struct words points = LEFT(points, 1, sizes_left[ALJUMESTE_POINTS]);
+    for (size_t p = 0; p < points.count; p++) printf("p %" PRIu32 "\n", points.at[p]);
+    print_elements('l', LEFT(lines, 3, sizes_left[ALJUMESTE_LINES]), 2);
+    print_elements('a', LEFT(areas, 5, sizes_left[ALJUMESTE_AREAS]), 4);
+    print_elements('s', LEFT(volumes, 9, sizes_left[ALJUMESTE_VOLUMES]), 8);
+    print_curves(LEFT(curves, 2, sizes_left[ALJUMESTE_CURVES]), LEFT(steps, 2, sizes_left[ALJUMESTE_CURVE_VERTICES]));
 }
 
 int main(void) {
@@ -93,6 +113,6 @@ int main(void) {
         return 1;
     }
     printf("passes %zu\n", answer[0]);
-    print_listing(answer[0] % 2 == 0 ? &first : &second, answer + 1);
+    print_listing((uint8_t)answer[0], answer + 1);
     return 0;
 }

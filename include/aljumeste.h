@@ -21,7 +21,7 @@
  * A parity is 0, even, or 1, odd. Corner c of a square or cube is at the far end of its axis i where bit i of c is set.
  *
  * Lists sit on two benches, the second's names beginning with other_. A mesh is handed in on the first. What is left stands on the
- * first bench after an even number of passes, on the second after an odd one. Refining is also lent:
+ * first bench after an even number of passes, on the second after an odd one (aljumeste_left says where). Refining is also lent:
  *
  *   book        4   a cell for each midpoint that is made
  *   sums        4   as many cells as the vertices have
@@ -104,6 +104,18 @@ uint8_t aljumeste_subdivide_simplices(
     uint32_t *other_curves, size_t other_curves_words, uint32_t *other_steps, size_t other_steps_words,
     uint32_t *book, size_t book_words, float *sums, size_t sums_words, uint32_t *tallies, size_t tallies_words,
     const size_t sizes[7], uint8_t depth, uint8_t smooth_time, size_t answer[8]);
+
+/* What is left of one list after so many passes: answer[0] becomes its bench, 0 the first and 1 the second, and answer[1] how many words
+ * of it count from its start, `words` or all there are. `words` are the list's size that the refinement answered times the words of a row,
+ * `passes` is its answer[0]. Nothing is copied, and no word of the lists is looked at. */
+void aljumeste_left(
+    const uint32_t *first, size_t first_words, const uint32_t *second, size_t second_words,
+    uint8_t passes, size_t words, size_t answer[2]);
+
+/* The same of the positions. */
+void aljumeste_left_positions(
+    const float *first, size_t first_words, const float *second, size_t second_words,
+    uint8_t passes, size_t words, size_t answer[2]);
 
 /* Cuts cubes into simplices: at most two triangles (rows of 4) a square and six tetrahedra (rows of 5) a cube, in the order of the
  * squares and cubes. All else of the mesh stays as it is. `answer` becomes the sizes of the mesh of simplices; after a refusal those

@@ -1,8 +1,9 @@
 //! The functions of libaljumeste.a as users of Rust link them: those of the crate `aljumeste` over lent lists. Each is defined at every
-//! input, so that a call needs no care. The lists move into the crate's types for a call, and back after it; none is copied.
+//! input, so that a call needs no care. Words are lent where they stand; those that are bits of floats become floats for a call.
 use crate::{
+    case::words_for,
     derived::{Answered, Entry},
-    desk::{Desk, Told},
+    desk::{slices, Desk, Told},
 };
 use aljumeste::raw;
 use reference::{
@@ -32,10 +33,60 @@ pub fn timed_subdivide(
         Kind::Simplices => raw::subdivide_simplices,
         Kind::Cubes => raw::subdivide_cubes,
     };
-    let (mut lent, sizes) = (lent_desk(mem::take(desk)), sizes.list());
-    let ((number, answer), took) = timed(|| refine(&mut lent, &sizes, depth, smooth_time));
-    *desk = desk_back(lent);
+    let Desk {
+        first,
+        second,
+        book,
+        sums,
+        tallies,
+    } = desk;
+    let sizes = sizes.list();
+    let (mut at, mut other_at, mut totals) = (
+        floats(&mut first.pos),
+        floats(&mut second.pos),
+        floats(sums),
+    );
+    let ((number, answer), took) = timed(|| {
+        let desk = raw::Desk {
+            first: lent(first, &mut at),
+            second: lent(second, &mut other_at),
+            book,
+            sums: &mut totals,
+            tallies,
+        };
+        refine(desk, &sizes, depth, smooth_time)
+    });
+    (first.pos, second.pos, *sums) = (bits(at), bits(other_at), bits(totals));
     (Told { number, answer }, took)
+}
+
+/// What a refinement of a kind leaves of each list, as it is handed out for so many passes and these sizes.
+pub fn left(kind: Kind, desk: &Desk, passes: usize, sizes: &Sizes) -> Bench {
+    let passes = passes as u8;
+    let [positions, words @ ..] = words_for(kind, sizes);
+    let float = |words: &[u32]| {
+        words
+            .iter()
+            .copied()
+            .map(f32::from_bits)
+            .collect::<Vec<_>>()
+    };
+    let (first, second) = (float(&desk.first.pos), float(&desk.second.pos));
+    let [_, first_lists @ ..] = slices(&desk.first);
+    let [_, second_lists @ ..] = slices(&desk.second);
+    let [marks, points, lines, areas, volumes, curves, curve_verts] = std::array::from_fn(|list| {
+        raw::left(first_lists[list], second_lists[list], passes, words[list]).to_vec()
+    });
+    Bench {
+        pos: bits(raw::left_positions(&first, &second, passes, positions).to_vec()),
+        marks,
+        points,
+        lines,
+        areas,
+        volumes,
+        curves,
+        curve_verts,
+    }
 }
 
 /// Triangulation or normals, into the lists that are lent for what is written. The mesh is borrowed as if it might change, so that a
@@ -51,28 +102,30 @@ pub fn timed_derive(
     sizes: &Sizes,
     lists: &mut [Vec<u32>],
 ) -> (Answered, Duration) {
-    let (mesh, sizes) = (lent(mem::take(bench)), sizes.list());
+    let sizes = sizes.list();
+    let mut at = floats(&mut bench.pos);
+    let mesh: raw::Mesh = lent(bench, &mut at).into();
     let answered = match (entry, lists) {
         (Entry::Triangulation, [triangles, tetrahedra]) => {
             let ((number, sizes), took) =
-                timed(|| raw::triangulate(&mesh, &sizes, triangles, tetrahedra));
+                timed(|| raw::triangulate(mesh, &sizes, triangles, tetrahedra));
             let sizes = Some(sizes);
             (Answered { number, sizes }, took)
         }
         (Entry::Normals3, [normals]) => {
-            shade(normals, |n| raw::compute_normals_3d(&mesh, &sizes, n))
+            shade(normals, |n| raw::compute_normals_3d(mesh, &sizes, n))
         }
         (Entry::Normals4, [normals]) => {
-            shade(normals, |n| raw::compute_normals_4d(&mesh, &sizes, n))
+            shade(normals, |n| raw::compute_normals_4d(mesh, &sizes, n))
         }
         (entry, lists) => panic!("{entry:?} writes no {} lists", lists.len()),
     };
-    *bench = bench_back(mesh);
+    bench.pos = bits(at);
     answered
 }
 
 fn shade(normals: &mut Vec<u32>, call: impl FnOnce(&mut [f32]) -> u8) -> (Answered, Duration) {
-    let mut lent = floats(mem::take(normals));
+    let mut lent = floats(normals);
     let (number, took) = timed(|| call(&mut lent));
     *normals = bits(lent);
     let sizes = None;
@@ -82,9 +135,10 @@ fn shade(normals: &mut Vec<u32>, call: impl FnOnce(&mut [f32]) -> u8) -> (Answer
 /// Reads a file onto the first bench. File and second bench are borrowed as if they might change, so that a comparison sees that they
 /// don't.
 pub fn read(file: &mut [u8], first: &mut Bench, second: &mut Bench) -> Told {
-    let (mut onto, other) = (lent(mem::take(first)), lent(mem::take(second)));
-    let (number, answer) = raw::read(file, &mut onto, &other);
-    (*first, *second) = (bench_back(onto), bench_back(other));
+    let (mut at, mut other_at) = (floats(&mut first.pos), floats(&mut second.pos));
+    let other = lent(second, &mut other_at).into();
+    let (number, answer) = raw::read(file, lent(first, &mut at), other);
+    (first.pos, second.pos) = (bits(at), bits(other_at));
     Told { number, answer }
 }
 
@@ -94,55 +148,23 @@ fn timed<T>(call: impl FnOnce() -> T) -> (T, Duration) {
     (told, began.elapsed())
 }
 
-fn lent_desk(desk: Desk) -> raw::Desk {
-    raw::Desk {
-        first: lent(desk.first),
-        second: lent(desk.second),
-        book: desk.book,
-        sums: floats(desk.sums),
-        tallies: desk.tallies,
-    }
-}
-
-fn desk_back(desk: raw::Desk) -> Desk {
-    Desk {
-        first: bench_back(desk.first),
-        second: bench_back(desk.second),
-        book: desk.book,
-        sums: bits(desk.sums),
-        tallies: desk.tallies,
-    }
-}
-
-fn lent(bench: Bench) -> raw::Bench {
+/// A bench, with its positions, which are elsewhere for the call.
+fn lent<'a>(bench: &'a mut Bench, positions: &'a mut [f32]) -> raw::Bench<'a> {
     raw::Bench {
-        positions: floats(bench.pos),
-        marks: bench.marks,
-        points: bench.points,
-        lines: bench.lines,
-        areas: bench.areas,
-        volumes: bench.volumes,
-        curves: bench.curves,
-        steps: bench.curve_verts,
+        positions,
+        marks: &mut bench.marks,
+        points: &mut bench.points,
+        lines: &mut bench.lines,
+        areas: &mut bench.areas,
+        volumes: &mut bench.volumes,
+        curves: &mut bench.curves,
+        steps: &mut bench.curve_verts,
     }
 }
 
-fn bench_back(bench: raw::Bench) -> Bench {
-    Bench {
-        pos: bits(bench.positions),
-        marks: bench.marks,
-        points: bench.points,
-        lines: bench.lines,
-        areas: bench.areas,
-        volumes: bench.volumes,
-        curves: bench.curves,
-        curve_verts: bench.steps,
-    }
-}
-
-/// Words as the floats whose bits they are, at the same place.
-fn floats(words: Vec<u32>) -> Vec<f32> {
-    words.into_iter().map(f32::from_bits).collect()
+/// Words, taken out, as the floats whose bits they are, at the same place.
+fn floats(words: &mut Vec<u32>) -> Vec<f32> {
+    mem::take(words).into_iter().map(f32::from_bits).collect()
 }
 
 fn bits(floats: Vec<f32>) -> Vec<u32> {

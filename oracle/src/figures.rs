@@ -9,7 +9,7 @@ use crate::{
 };
 use reference::{
     file::decode,
-    mesh::{Element, Mesh, Sizes},
+    mesh::{Curve, Element, Kind, Mesh, Sizes, Vertex},
     sheet::{self, Sheet, CELLS},
 };
 use std::{fs, path::PathBuf, process::Command};
@@ -98,4 +98,32 @@ fn they_are_printed() {
             assert_eq!(listing, Sheet::Mesh.of(&input), "{name}");
         }
     }
+}
+
+/// What the C example prints of its cube is what the original gives.
+#[test]
+fn the_cube_of_the_c_example() {
+    let corner = |i: u32| Vertex {
+        bits: [0, 1, 2, 3].map(|axis| if i >> axis & 1 == 1 { 8_f32 } else { 0. }.to_bits()),
+        flags: 0,
+        tag: 0,
+        k: 0,
+    };
+    let cube = Mesh {
+        verts: (0..8).map(corner).collect(),
+        points: vec![0],
+        volumes: vec![Element {
+            corners: (0..8).collect(),
+            parity: 0,
+        }],
+        curves: vec![Curve {
+            tag: 7,
+            verts: vec![0, 1, 3],
+            steps: vec![0; 3],
+        }],
+        ..Mesh::empty(Kind::Cubes)
+    };
+    let listing = Sheet::Mesh.of(&sheet::input(1, false, &cube));
+    let stored = fs::read_to_string(example("refine_cube.txt")).expect("the example's text");
+    assert_eq!(listing, stored);
 }

@@ -3,8 +3,9 @@
 //!
 //! `all` takes the root of every one of the 2^32 patterns. `spread` takes the roots of a million patterns and normalises a million
 //! vectors of three and of four components. `KIND SEED COUNT` refines so many random meshes of a kind, cubes or simplices; `ENTRY SEED
-//! COUNT` cuts or shades so many, with triangulation, normals3 or normals4. `file SEED COUNT` reads so many files of both kinds, and
-//! `sheet SEED COUNT` gives so many inputs to the program of that name. `sample KIND` prints cases with the reference's answers, for
+//! COUNT` cuts or shades so many, with triangulation, normals3 or normals4. `geometry SEED COUNT` does all of it through the crate's
+//! geometries, for so many of each kind. `file SEED COUNT` reads so many files of both kinds, and `sheet SEED COUNT` gives so many inputs
+//! to the program of that name. `sample KIND` prints cases with the reference's answers, for
 //! other programs. `bench` measures speed. `ledger SEED COUNT` refines so many meshes of each
 //! kind, and holds the ledgers of what is left against document 01's section 5.
 #![forbid(unsafe_code)]
@@ -20,6 +21,8 @@ mod draw;
 mod exports;
 #[cfg(test)]
 mod figures;
+mod geometries;
+mod geometry;
 mod ledger;
 mod normal;
 mod program;
@@ -102,8 +105,9 @@ fn main() -> ExitCode {
             true
         }),
         ["bench", "one", what, size, side] => counted(what, size, side),
-        ["ledger"] => ledgers("1", "3000"),
-        ["ledger", seed, cases] => ledgers(seed, cases),
+        ["ledger"] => both_kinds("1", "3000", ledger::compare),
+        ["ledger", seed, cases] => both_kinds(seed, cases, ledger::compare),
+        ["geometry", seed, cases] => both_kinds(seed, cases, geometries::compare),
         [what, seed, cases] => compared(what, seed, cases),
         _ => None,
     };
@@ -111,7 +115,7 @@ fn main() -> ExitCode {
         Some(true) => ExitCode::SUCCESS,
         Some(false) => ExitCode::from(1),
         None => {
-            eprintln!("usage: cargo run --release -- all | spread | WHAT SEED COUNT | sample KIND | bench [ENTRY] | bench one WHAT SIZE SIDE | ledger [SEED COUNT]");
+            eprintln!("usage: cargo run --release -- all | spread | WHAT SEED COUNT | sample KIND | bench [ENTRY] | bench one WHAT SIZE SIDE | ledger [SEED COUNT] | geometry SEED COUNT");
             eprintln!("KIND is cubes or simplices, ENTRY triangulation, normals3 or normals4, WHAT either, file or sheet, SIDE library, original or none");
             ExitCode::from(2)
         }
@@ -139,11 +143,15 @@ fn compared(what: &str, seed: &str, cases: &str) -> Option<bool> {
     Some(found.apart.is_none())
 }
 
-/// Prints what the ledgers of random meshes showed, of both kinds: whether all are as document 01 says.
-fn ledgers(seed: &str, cases: &str) -> Option<bool> {
+/// Prints what random meshes of both kinds showed: whether all are as they should be.
+fn both_kinds(
+    seed: &str,
+    cases: &str,
+    compare: fn(Kind, u64, u64) -> refinement::Compared,
+) -> Option<bool> {
     let (seed, cases) = (seed.parse().ok()?, cases.parse().ok()?);
     let agree = KINDS.map(|kind| {
-        let found = ledger::compare(kind, seed, cases);
+        let found = compare(kind, seed, cases);
         println!("{kind:?}:");
         found.print();
         found.apart.is_none()

@@ -133,8 +133,10 @@ pub fn differs(case: &Case, engine: Engine) -> Result<Answer, String> {
     same_answer(&told, &expected)?;
     match &expected.left {
         None => same_desk(&desk, &before)?,
-        Some(mesh) if expected.passes % 2 == 0 => same_lists(&desk.first, mesh)?,
-        Some(mesh) => same_lists(&desk.second, mesh)?,
+        Some(mesh) => {
+            let left = exports::left(kind, &desk, expected.passes, &expected.sizes);
+            same_lists(&left, mesh)?;
+        }
     }
     Ok(expected)
 }
@@ -184,19 +186,18 @@ fn same_desk(after: &Desk, before: &Desk) -> Result<(), String> {
     same_words("the tallies", &after.tallies, &before.tallies)
 }
 
-/// The words of every entry on a bench are those of a mesh.
-fn same_lists(bench: &Bench, mesh: &Mesh) -> Result<(), String> {
+/// The words that are left are those of a mesh.
+fn same_lists(left: &Bench, mesh: &Mesh) -> Result<(), String> {
     let mut expected = Bench::lent(mesh.kind, &mesh.sizes());
     expected.put(mesh);
     let mut last = 0;
     for curve in &mesh.curves {
         last += curve.verts.len();
         // The word that belongs to no step.
-        expected.curve_verts[2 * last - 1] = bench.curve_verts[2 * last - 1];
+        expected.curve_verts[2 * last - 1] = left.curve_verts[2 * last - 1];
     }
     for (slice, name) in SLICES.iter().enumerate() {
-        let theirs = slices(&expected)[slice];
-        same_words(name, &slices(bench)[slice][..theirs.len()], theirs)?;
+        same_words(name, slices(left)[slice], slices(&expected)[slice])?;
     }
     Ok(())
 }

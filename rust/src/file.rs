@@ -1,8 +1,8 @@
 //! Reading a file of document 01, section 8.
 use crate::{
-    geom::{CubicalGeometry, SimplicialGeometry},
-    lending::CUBES,
-    raw::{self, Bench, Sizes},
+    geom::{CubicalGeometry, ElementData, Geometry, SimplicialGeometry, Vert},
+    lending::{Kind, CUBES, SIMPLICES},
+    raw::Sizes,
     Refusal, LIMIT,
 };
 
@@ -14,9 +14,6 @@ pub enum Figure {
     /// Kind 1.
     Simplices(SimplicialGeometry),
 }
-
-/// The fewest bytes of a file for an entry of each list: vertices, points, lines, areas, volumes, curves, curve vertices.
-const BYTES: Sizes = [25, 4, 9, 13, 17, 12, 4];
 
 /// Reads a whole file.
 ///
@@ -31,25 +28,64 @@ const BYTES: Sizes = [25, 4, 9, 13, 17, 12, 4];
 /// # Errors
 /// 1 to 8, and 10 where a count is over the limit.
 pub fn read(file: &[u8]) -> Result<Figure, Refusal> {
-    // A count that the file has no bytes for may still be below the limit, where 10 is not due: such a file is judged again.
-    match read_within(file, &BYTES.map(|bytes| LIMIT.min(file.len() / bytes))) {
-        Err(Refusal::Full { .. }) => read_within(file, &[LIMIT; 7]),
+    // A file that says neither kind is refused, whatever is lent.
+    Ok(match file.get(1) {
+        Some(1) => Figure::Simplices(read_kind(&SIMPLICES, file)?),
+        _ => Figure::Cubes(read_kind(&CUBES, file)?),
+    })
+}
+
+fn read_kind<const A: usize, const V: usize, E>(
+    kind: &Kind<A, V>,
+    file: &[u8],
+) -> Result<Geometry<E>, Refusal>
+where
+    E: ElementData<Point = Vert, Line = [Vert; 2], Area = [Vert; A], Volume = [Vert; V]>,
+{
+    match Geometry::read(kind, file, &stated(file, 4 * A + 1, 4 * V + 1)) {
+        // A count that the file has no bytes for may still be below the limit, where 10 is not due: such a file is judged again.
+        Err(Refusal::Full { .. }) => Geometry::read(kind, file, &[LIMIT; 7]),
         read => read,
     }
 }
 
-fn read_within(file: &[u8], cells: &Sizes) -> Result<Figure, Refusal> {
-    // Rows of cubes are the longer ones.
-    let mut bench = Bench::lent(CUBES.rows, cells);
-    let (number, [kind, sizes @ ..]) = raw::read(file, &mut bench, &Bench::lent(CUBES.rows, cells));
-    Refusal::judged(number, 0)?;
-    Ok(if kind == 0 {
-        let mut cubes = CubicalGeometry::default();
-        cubes.take(&bench, &sizes);
-        Figure::Cubes(cubes)
-    } else {
-        let mut simplices = SimplicialGeometry::default();
-        simplices.take(&bench, &sizes);
-        Figure::Simplices(simplices)
-    })
+/// The entries that a file states, as far as it has bytes for them. An area and a volume have so many.
+fn stated(file: &[u8], area: usize, volume: usize) -> Sizes {
+    let mut rest = file.get(2..).unwrap_or_default();
+    let mut count = |bytes: usize| {
+        let Some((count, rows)) = rest.split_first_chunk() else {
+            return 0;
+        };
+        let count = (u32::from_be_bytes(*count) as usize).min(rows.len() / bytes);
+        rest = &rows[count * bytes..];
+        count
+    };
+    let [verts, points, lines, areas, volumes] = [25, 4, 9, area, volume].map(&mut count);
+    // A curve has 7 bytes, and 5 for each of its vertices.
+    let curves = count(7);
+    let sizes = [verts, points, lines, areas, volumes, curves, rest.len() / 5];
+    sizes.map(|size| size.min(LIMIT))
+}
+
+#[cfg(test)]
+mod tests {
+    use super::*;
+
+    /// As many cells as entries: a vertex, two points, a line, a square, no cube, and two curves of three vertices in all.
+    #[test]
+    fn cells_for_what_is_stated() {
+        let mut file = vec![1, 0];
+        let lists = [(1, 25), (2, 8), (1, 9), (1, 17), (0, 0), (2, 14 + 15)];
+        for (count, bytes) in lists {
+            file.extend([0, 0, 0, count]);
+            file.extend(vec![0; bytes]);
+        }
+        assert_eq!(stated(&file, 17, 33), [1, 2, 1, 1, 0, 2, 3]);
+        // The last list has fewer bytes than it states.
+        file.truncate(file.len() - 20);
+        assert_eq!(stated(&file, 17, 33), [1, 2, 1, 1, 0, 1, 0]);
+        file.truncate(20);
+        assert_eq!(stated(&file, 17, 33), [0; 7]);
+        assert_eq!(stated(&[], 17, 33), [0; 7]);
+    }
 }

@@ -1,17 +1,17 @@
 //! Geometries, as in homotopy-graphics: cubical and simplicial, refined, cut into simplices and given normals by the engine.
 use crate::{
     idx::{Idx, IdxVec},
-    lending::{lent, Kind, CUBES, SIMPLICES},
+    lending::{CUBES, SIMPLICES},
     parity::Parity,
-    raw::{self, Bench, Sizes},
-    words::{columns, elements},
-    Refusal, Vec3, Vec4, LIMIT,
+    raw::{self, Mesh, Sizes},
+    Refusal, Vec3, Vec4,
 };
 
 macro_rules! declare_idx {
     ($($(#[$words:meta])* $name:ident)*) => {$(
         $(#[$words])*
         #[derive(Copy, Clone, PartialEq, Eq, PartialOrd, Ord, Hash, Default, Debug)]
+        #[repr(transparent)]
         pub struct $name(pub(crate) u32);
 
         impl Idx for $name {
@@ -185,31 +185,6 @@ impl SimplicialGeometry {
     }
 }
 
-impl<const A: usize, const V: usize, E> Geometry<E>
-where
-    E: ElementData<Point = Vert, Line = [Vert; 2], Area = [Vert; A], Volume = [Vert; V]>,
-{
-    fn refine(&mut self, kind: &Kind, smooth_time: bool, depth: u8) -> Result<(), Refusal> {
-        let sizes = self.sizes()?;
-        let mut desk = lent(kind, &sizes, depth);
-        self.put(&mut desk.first);
-        let (number, [passes, left @ ..]) =
-            (kind.subdivide)(&mut desk, &sizes, depth, smooth_time.into());
-        if passes > 0 {
-            self.take(&desk.left(passes), &left);
-        }
-        Refusal::judged(number, passes)
-    }
-
-    /// The words of the whole mesh with its sizes, for an entry that writes none of its lists.
-    fn bench(&self) -> Result<(Bench, Sizes), Refusal> {
-        let sizes = self.sizes()?;
-        let mut bench = Bench::lent([A + 1, V + 1], &sizes);
-        self.put(&mut bench);
-        Ok((bench, sizes))
-    }
-}
-
 // Triangulation
 
 impl CubicalGeometry {
@@ -224,21 +199,6 @@ impl CubicalGeometry {
             points: self.points.clone(),
             lines: self.lines.clone(),
             ..self.pieces()?
-        })
-    }
-
-    /// The triangles and tetrahedra alone.
-    fn pieces(&self) -> Result<SimplicialGeometry, Refusal> {
-        let (mesh, sizes) = self.bench()?;
-        let mut triangles = vec![0; 4 * LIMIT.min(2 * self.areas.len())];
-        let mut tetrahedra = vec![0; 5 * LIMIT.min(6 * self.volumes.len())];
-        let (number, left) = raw::triangulate(&mesh, &sizes, &mut triangles, &mut tetrahedra);
-        Refusal::judged(number, 0)?;
-        let [_, _, _, areas, volumes, ..] = left;
-        Ok(Geometry {
-            areas: elements(&triangles, areas),
-            volumes: elements(&tetrahedra, volumes),
-            ..Geometry::default()
         })
     }
 }
@@ -270,9 +230,7 @@ impl SimplicialGeometry {
     /// # Errors
     /// 6, 7, 8, 9 or 10 for what is wrong with the geometry.
     pub fn compute_normals_3d(&self) -> Result<IdxVec<Vert, Vec3>, Refusal> {
-        Ok(columns::<3, Vec3>(
-            &self.normals(3, raw::compute_normals_3d)?,
-        ))
+        Ok(self.normals(raw::compute_normals_3d)?.map(Vec3::from))
     }
 
     /// The same in 4D, to the tetrahedra.
@@ -280,20 +238,18 @@ impl SimplicialGeometry {
     /// # Errors
     /// 6, 7, 8, 9 or 10 for what is wrong with the geometry.
     pub fn compute_normals_4d(&self) -> Result<IdxVec<Vert, Vec4>, Refusal> {
-        Ok(columns::<4, Vec4>(
-            &self.normals(4, raw::compute_normals_4d)?,
-        ))
+        Ok(self.normals(raw::compute_normals_4d)?.map(Vec4::from))
     }
 
-    fn normals(
+    /// Written where the caller finds them: turning numbers into vectors leaves each in its place.
+    fn normals<const D: usize>(
         &self,
-        dimensions: usize,
-        export: fn(&Bench, &Sizes, &mut [f32]) -> u8,
-    ) -> Result<Vec<f32>, Refusal> {
-        let (mesh, sizes) = self.bench()?;
-        let mut normals = vec![0.0; dimensions * self.verts.len()];
-        Refusal::judged(export(&mesh, &sizes, &mut normals), 0)?;
-        Ok(normals)
+        entry: fn(Mesh, &Sizes, &mut [f32]) -> u8,
+    ) -> Result<IdxVec<Vert, [f32; D]>, Refusal> {
+        let mut normals = vec![[0.0; D]; self.verts.len()];
+        let number = self.shared(|mesh, sizes| entry(mesh, sizes, normals.as_flattened_mut()))?;
+        Refusal::judged(number, 0)?;
+        Ok(normals.into())
     }
 }
 

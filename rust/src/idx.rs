@@ -136,6 +136,11 @@ impl<I: Idx, T> IdxVec<I, T> {
         self.raw
     }
 
+    /// The entries where they stand.
+    pub(crate) fn as_slice(&self) -> &[T] {
+        &self.raw
+    }
+
     /// Takes all entries off.
     pub fn clear(&mut self) {
         self.raw.clear();

@@ -4,48 +4,40 @@
 //! pieces ask for is one of those places. Elements that share midpoints need less. Fresh memory that is lent and not used is not touched, so it
 //! costs addresses alone; memory that the allocator hands out again costs its zeroing.
 use crate::{
-    raw::{self, Bench, Desk, Sizes, Told},
+    raw::{self, Desk, Sizes, Told},
     LIMIT,
 };
 
-/// What the two kinds differ in.
-pub(crate) struct Kind {
-    pub subdivide: fn(&mut Desk, &Sizes, u8, u8) -> Told<8>,
-    /// The words of an area's row and of a volume's.
-    pub rows: [usize; 2],
+/// What the two kinds differ in, beside the corners of an area, A, and of a volume, V.
+pub(crate) struct Kind<const A: usize, const V: usize> {
+    /// Its number in a file.
+    pub number: usize,
+    pub subdivide: fn(Desk, &Sizes, u8, u8) -> Told<8>,
     /// The places of an area's grid and of a volume's, m pieces along each side.
     places: [fn(u64) -> u64; 2],
 }
 
-pub(crate) const CUBES: Kind = Kind {
+pub(crate) const CUBES: Kind<4, 8> = Kind {
+    number: 0,
     subdivide: raw::subdivide_cubes,
-    rows: [5, 9],
     places: [|m| (m + 1).pow(2), |m| (m + 1).pow(3)],
 };
 
-pub(crate) const SIMPLICES: Kind = Kind {
+pub(crate) const SIMPLICES: Kind<3, 4> = Kind {
+    number: 1,
     subdivide: raw::subdivide_simplices,
-    rows: [4, 5],
     places: [
         |m| (m + 1) * (m + 2) / 2,
         |m| (m + 1) * (m + 2) * (m + 3) / 6,
     ],
 };
 
-/// The desk for a mesh of these sizes; every word is 0.
-pub(crate) fn lent(kind: &Kind, sizes: &Sizes, depth: u8) -> Desk {
-    let (cells, book) = needs(kind, sizes, depth);
-    Desk {
-        first: Bench::lent(kind.rows, &cells),
-        second: Bench::lent(kind.rows, &cells),
-        book: vec![0; 4 * book],
-        sums: vec![0.0; 4 * cells[0]],
-        tallies: vec![0; 2 * cells[0]],
-    }
-}
-
 /// The cells of each list and of the book: no mesh of these sizes needs more, the limit aside.
-fn needs(kind: &Kind, sizes: &Sizes, depth: u8) -> (Sizes, usize) {
+pub(crate) fn needs<const A: usize, const V: usize>(
+    kind: &Kind<A, V>,
+    sizes: &Sizes,
+    depth: u8,
+) -> (Sizes, usize) {
     // From 21 on, whatever grows grows beyond the limit of 2^20.
     let m = 1 << depth.min(21);
     let [verts, points, lines, areas, volumes, curves, steps] = sizes.map(|size| size as u64);
@@ -99,15 +91,18 @@ mod tests {
     }
 
     /// The limit bounds what is lent, but never below what is handed in.
+    fn limited_to<const A: usize, const V: usize>(kind: &Kind<A, V>) {
+        let (cells, book) = needs(kind, &[1, 1, 1, 1, 1, 1, 2], 255);
+        assert_eq!(cells, [LIMIT, 1, LIMIT, LIMIT, LIMIT, 1, LIMIT]);
+        assert_eq!(book, LIMIT);
+        let over = [LIMIT + 7; 7];
+        assert_eq!(needs(kind, &over, 255).0, over);
+        assert_eq!(needs(kind, &over, 0), (over, 0));
+    }
+
     #[test]
     fn the_limit() {
-        for kind in [CUBES, SIMPLICES] {
-            let (cells, book) = needs(&kind, &[1, 1, 1, 1, 1, 1, 2], 255);
-            assert_eq!(cells, [LIMIT, 1, LIMIT, LIMIT, LIMIT, 1, LIMIT]);
-            assert_eq!(book, LIMIT);
-            let over = [LIMIT + 7; 7];
-            assert_eq!(needs(&kind, &over, 255).0, over);
-            assert_eq!(needs(&kind, &over, 0), (over, 0));
-        }
+        limited_to(&CUBES);
+        limited_to(&SIMPLICES);
     }
 }

@@ -56,13 +56,16 @@
 //! entries alone. Whoever wants to lend it himself, or to keep it between calls, finds the engine's own functions in [`raw`].
 #![deny(missing_docs, unsafe_code, unsafe_op_in_unsafe_fn)]
 
+mod engine;
 mod file;
 pub mod geom;
 pub mod idx;
 mod lending;
+mod lists;
 pub mod parity;
 pub mod raw;
 mod refusal;
+mod rows;
 mod vector;
 mod words;
 

@@ -1,13 +1,14 @@
 //! `Parity` with `flip` and the product, as in homotopy-graphics.
 use std::{iter::Product, ops::Mul};
 
-/// The orientation of an element, or of a step of a curve.
+/// The orientation of an element, or of a step of a curve; in memory, the engine's word for it.
 #[derive(Copy, Clone, Debug, PartialEq, Eq, Hash)]
+#[repr(u32)]
 pub enum Parity {
     /// Sign +.
-    Even,
+    Even = 0,
     /// Sign -.
-    Odd,
+    Odd = 1,
 }
 
 impl From<bool> for Parity {

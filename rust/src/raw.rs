@@ -1,9 +1,38 @@
 //! The exports of libaljumeste.a, over lists that the caller lends: what stands below the geometries, for a caller who chooses every
 //! length. include/aljumeste.h says what each list, row and word means.
 //!
-//! An export is proved to answer any words in any lists of any lengths, so every function here is safe to call. This is the crate's only
-//! module with `unsafe`: a list crosses as its pointer and its length, and is borrowed until the call is over; lists that are written are
-//! apart from all others.
+//! An export is proved to answer any words in any lists of any lengths, so every function here is safe to call: a list crosses as its
+//! pointer and its length, and is borrowed until the call is over; lists that are written are apart from all others.
+//!
+//! ```
+//! use aljumeste::raw::{self, Bench, Desk};
+//!
+//! // A line from vertex 0 to vertex 1, refined once: cells for three vertices, two lines and one midpoint.
+//! let (mut positions, mut marks, mut lines) = ([0.0; 12], [0; 9], [0; 6]);
+//! let (mut other_positions, mut other_marks, mut other_lines) = ([0.0; 12], [0; 9], [0; 6]);
+//! positions[4] = 8.0;
+//! lines[1] = 1;
+//! let desk = Desk {
+//!     first: Bench {
+//!         positions: &mut positions,
+//!         marks: &mut marks,
+//!         lines: &mut lines,
+//!         ..Bench::default()
+//!     },
+//!     second: Bench {
+//!         positions: &mut other_positions,
+//!         marks: &mut other_marks,
+//!         lines: &mut other_lines,
+//!         ..Bench::default()
+//!     },
+//!     book: &mut [0; 4],
+//!     sums: &mut [0.0; 12],
+//!     tallies: &mut [0; 6],
+//! };
+//! let (number, [passes, left @ ..]) = raw::subdivide_simplices(desk, &[2, 0, 1, 0, 0, 0, 0], 1, 0);
+//! assert_eq!((number, passes, left), (0, 1, [3, 0, 2, 0, 0, 0, 0]));
+//! assert_eq!(raw::left(&lines, &other_lines, passes as u8, 3 * left[2]), [0, 2, 0, 2, 1, 0]);
+//! ```
 #![allow(unsafe_code)]
 
 /// One number for each list: vertices, points, lines, areas, volumes, curves, curve vertices.
@@ -12,51 +41,78 @@ pub type Sizes = [usize; 7];
 /// What an export tells: the refusal's number, 0 where there is none, and the words of its answer.
 pub type Told<const WORDS: usize> = (u8, [usize; WORDS]);
 
-/// The words of one bench. A cell is a whole row; a list's lent cells are its length divided by the words of a row, rounded down.
-#[derive(Clone, Debug, Default, PartialEq)]
-pub struct Bench {
+/// The lists of one bench, lent to be written. A cell is a whole row; a list's lent cells are its length divided by the words of a row,
+/// rounded down.
+#[derive(Debug, Default, PartialEq)]
+pub struct Bench<'a> {
     /// Of a vertex: x, y, z, w.
-    pub positions: Vec<f32>,
+    pub positions: &'a mut [f32],
     /// Of a vertex: flags (bit i is axis i), tag, k.
-    pub marks: Vec<u32>,
+    pub marks: &'a mut [u32],
     /// A vertex number.
-    pub points: Vec<u32>,
+    pub points: &'a mut [u32],
     /// Two corners, then the parity: 0 even, 1 odd.
-    pub lines: Vec<u32>,
+    pub lines: &'a mut [u32],
     /// Four corners for cubes, three for simplices, then the parity.
-    pub areas: Vec<u32>,
+    pub areas: &'a mut [u32],
     /// Eight corners for cubes, four for simplices, then the parity.
-    pub volumes: Vec<u32>,
+    pub volumes: &'a mut [u32],
     /// Tag, vertex count.
-    pub curves: Vec<u32>,
+    pub curves: &'a mut [u32],
     /// Of a vertex of a curve: its number, and the parity of the step to the next. The last one's is never read.
-    pub steps: Vec<u32>,
+    pub steps: &'a mut [u32],
+}
+
+/// The same lists, lent to be read: they may lie over each other.
+#[derive(Copy, Clone, Debug, Default, PartialEq)]
+pub struct Mesh<'a> {
+    /// x, y, z, w.
+    pub positions: &'a [f32],
+    /// Flags, tag, k.
+    pub marks: &'a [u32],
+    /// A vertex number.
+    pub points: &'a [u32],
+    /// Two corners, parity.
+    pub lines: &'a [u32],
+    /// Four or three corners, parity.
+    pub areas: &'a [u32],
+    /// Eight or four corners, parity.
+    pub volumes: &'a [u32],
+    /// Tag, vertex count.
+    pub curves: &'a [u32],
+    /// A vertex number, the parity of the step to the next.
+    pub steps: &'a [u32],
+}
+
+/// What was written, to be read.
+impl<'a> From<Bench<'a>> for Mesh<'a> {
+    fn from(bench: Bench<'a>) -> Self {
+        Self {
+            positions: bench.positions,
+            marks: bench.marks,
+            points: bench.points,
+            lines: bench.lines,
+            areas: bench.areas,
+            volumes: bench.volumes,
+            curves: bench.curves,
+            steps: bench.steps,
+        }
+    }
 }
 
 /// All that a refinement is lent.
-#[derive(Clone, Debug, Default, PartialEq)]
-pub struct Desk {
+#[derive(Debug, Default, PartialEq)]
+pub struct Desk<'a> {
     /// Where the mesh is handed in, and left after an even number of passes.
-    pub first: Bench,
+    pub first: Bench<'a>,
     /// Where it is left after an odd number. Its lists have as many cells as the first's.
-    pub second: Bench,
+    pub second: Bench<'a>,
     /// The midpoint book, four words a midpoint.
-    pub book: Vec<u32>,
+    pub book: &'a mut [u32],
     /// Smoothing's sums, four numbers a vertex: as many cells as the vertices have.
-    pub sums: Vec<f32>,
+    pub sums: &'a mut [f32],
     /// Smoothing's counts and touches, two words a vertex.
-    pub tallies: Vec<u32>,
-}
-
-impl Desk {
-    /// The bench that the last whole pass wrote; all else is given back.
-    #[must_use]
-    pub fn left(self, passes: usize) -> Bench {
-        match passes % 2 {
-            0 => self.first,
-            _ => self.second,
-        }
-    }
+    pub tallies: &'a mut [u32],
 }
 
 extern "C" {
@@ -150,7 +206,7 @@ macro_rules! refinement {
     ($(#[$words:meta])* $name:ident, $export:ident) => {
         $(#[$words])*
         pub fn $name(
-            desk: &mut Desk,
+            desk: Desk,
             sizes: &Sizes,
             depth: u8,
             smooth_time: u8,
@@ -264,16 +320,66 @@ refinement! {
     subdivide_simplices, aljumeste_subdivide_simplices
 }
 
+/// What is left of a list: its name here, its export, and what its words are.
+macro_rules! left {
+    ($(#[$words:meta])* $name:ident, $export:ident, $word:ty) => {
+        $(#[$words])*
+        #[must_use]
+        pub fn $name<'a>(
+            first: &'a [$word],
+            second: &'a [$word],
+            passes: u8,
+            words: usize,
+        ) -> &'a [$word] {
+            extern "C" {
+                fn $export(
+                    first: *const $word,
+                    first_words: usize,
+                    second: *const $word,
+                    second_words: usize,
+                    passes: u8,
+                    words: usize,
+                    answer: &mut [usize; 2],
+                );
+            }
+            let mut answer = [0; 2];
+            // SAFETY: both pointers have their own list's length, and the lists are only read.
+            unsafe {
+                $export(
+                    first.as_ptr(),
+                    first.len(),
+                    second.as_ptr(),
+                    second.len(),
+                    passes,
+                    words,
+                    &mut answer,
+                );
+            }
+            let [bench, words] = answer;
+            &[first, second][bench][..words]
+        }
+    };
+}
+
+left! {
+    /// What is left of a list after so many passes: the part of one of its two slices that counts, so many words or all there are.
+    left, aljumeste_left, u32
+}
+left! {
+    /// The same of the positions.
+    left_positions, aljumeste_left_positions, f32
+}
+
 /// Cuts cubes into simplices: writes triangles and tetrahedra, in rows of four and five words. Answers 0 or the refusal's number; and the
 /// sizes of the mesh of simplices, or those stated after a refusal.
 pub fn triangulate(
-    mesh: &Bench,
+    mesh: Mesh,
     sizes: &Sizes,
     triangles: &mut [u32],
     tetrahedra: &mut [u32],
 ) -> Told<7> {
     let mut answer = [0; 7];
-    // SAFETY: every pointer has its own list's length; a mesh that is borrowed is only read, and the lists written are apart from it.
+    // SAFETY: every pointer has its own list's length; a mesh is only read, and the lists written are lent apart from it.
     let number = unsafe {
         aljumeste_triangulate(
             mesh.positions.as_ptr(),
@@ -307,7 +413,7 @@ pub fn triangulate(
 macro_rules! normals {
     ($(#[$words:meta])* $name:ident, $export:ident) => {
         $(#[$words])*
-        pub fn $name(mesh: &Bench, sizes: &Sizes, normals: &mut [f32]) -> u8 {
+        pub fn $name(mesh: Mesh, sizes: &Sizes, normals: &mut [f32]) -> u8 {
             extern "C" {
                 fn $export(
                     positions: *const f32,
@@ -370,7 +476,7 @@ normals! {
 
 /// Reads a file onto the first bench; of the second the lengths alone count. Answers 0 or the refusal's number; and the kind, 0 cubes or 1
 /// simplices, then the sizes, which are 0 after a refusal.
-pub fn read(file: &[u8], first: &mut Bench, second: &Bench) -> Told<8> {
+pub fn read(file: &[u8], first: Bench, second: Mesh) -> Told<8> {
     // Words that no answer has: after a refusal every word is 0, and one that is not written has to show.
     let mut answer = [usize::MAX; 8];
     // SAFETY: every pointer has its own list's length; the first bench is lent for the call, apart from what is only read.

@@ -66,6 +66,58 @@ fn a_file_of_simplices() {
     assert_eq!(read(&file), Ok(Figure::Simplices(expected)));
 }
 
+/// A cube, two squares, a point and a curve.
+#[test]
+fn a_file_of_cubes() {
+    let word = |number: u32| number.to_be_bytes();
+    let mut file = [&[1, 0][..], &word(8)].concat();
+    file.extend([0; 8 * 25]);
+    file.extend([word(1), word(7), word(0), word(2)].concat());
+    file.extend([0, 1, 2, 3].map(word).concat());
+    file.push(1);
+    file.extend([4, 5, 6, 7].map(word).concat());
+    file.push(0);
+    file.extend(word(1));
+    file.extend([7, 6, 5, 4, 3, 2, 1, 0].map(word).concat());
+    file.push(1);
+    file.extend([word(1), word(7), word(2), word(6), word(5)].concat());
+    file.push(1);
+    let Ok(Figure::Cubes(mesh)) = read(&file) else {
+        panic!("cubes")
+    };
+    assert_eq!((mesh.verts.len(), mesh.lines.len()), (8, 0));
+    assert_eq!(mesh.points.into_raw(), v([7]));
+    assert_eq!(
+        mesh.areas.into_raw(),
+        [(v([0, 1, 2, 3]), Odd), (v([4, 5, 6, 7]), Even)]
+    );
+    assert_eq!(
+        mesh.volumes.into_raw(),
+        [(v([7, 6, 5, 4, 3, 2, 1, 0]), Odd)]
+    );
+    assert_eq!(mesh.curves.into_raw(), [curve(&[6, 5], &[Odd])]);
+}
+
+/// The second byte alone says the kind: the example has no areas or volumes, and is a file of either.
+#[test]
+fn kinds() {
+    for kind in 0..=255 {
+        let mut file = example();
+        file[1] = kind;
+        match (kind, read(&file)) {
+            (0, Ok(Figure::Cubes(mesh))) => assert_eq!(mesh.lines.len(), 1),
+            (1, Ok(Figure::Simplices(mesh))) => assert_eq!(mesh.lines.len(), 1),
+            (2.., Err(refusal)) => assert_eq!(refusal, Refusal::Kind),
+            (_, read) => panic!("{kind}: {read:?}"),
+        }
+        // 1 comes before 2, and 2 before 3.
+        assert_eq!(read(&[0, kind]), Err(Refusal::Version));
+        if kind > 1 {
+            assert_eq!(read(&[1, kind]), Err(Refusal::Kind));
+        }
+    }
+}
+
 #[test]
 fn files_that_are_refused() {
     let changed = |at: usize, byte: u8| {
@@ -93,12 +145,18 @@ fn files_that_are_refused() {
 /// A count that the file has no bytes for is 3 up to the limit, and 10 beyond it.
 #[test]
 fn counts_in_a_file() {
-    let counted = |count: u32| {
-        let mut file = vec![1, 1];
-        file.extend(count.to_be_bytes());
-        read(&file).unwrap_err()
-    };
-    assert_eq!(counted(1_048_576), Refusal::EndsEarly);
-    assert_eq!(counted(1_048_577), Refusal::Full { passes: 0 });
-    assert_eq!(counted(u32::MAX), Refusal::Full { passes: 0 });
+    // Each list's count behind empty lists, and the count of a curve's vertices.
+    let lists = (0..6).map(|list| vec![0; 4 * list]);
+    let curve = [&[0; 20][..], &[0, 0, 0, 1, 0, 0, 0, 7]].concat();
+    for before in lists.chain([curve]) {
+        for kind in [0, 1] {
+            let counted = |count: u32| {
+                let file = [&[1, kind], &before[..], &count.to_be_bytes()].concat();
+                read(&file).unwrap_err()
+            };
+            assert_eq!(counted(1_048_576), Refusal::EndsEarly);
+            assert_eq!(counted(1_048_577), Refusal::Full { passes: 0 });
+            assert_eq!(counted(u32::MAX), Refusal::Full { passes: 0 });
+        }
+    }
 }

@@ -2,32 +2,57 @@
 mod common;
 
 use aljumeste::{
-    geom::Vert, idx::Idx, CubicalGeometry, Parity, Refusal, SimplicialGeometry, VertData, LIMIT,
+    geom::{ElementData, Geometry, Vert},
+    idx::Idx,
+    CubicalGeometry, Parity, Refusal, SimplicialGeometry, VertData, LIMIT,
 };
 use common::{cubes, curve, simplices, v, vertex, Even, Odd};
+use std::fmt::Debug;
+
+fn unchanged<E>(after: &Geometry<E>, before: &Geometry<E>)
+where
+    E: ElementData<Point: Debug, Line: Debug, Area: Debug, Volume: Debug>,
+{
+    assert_eq!(after.points, before.points);
+    assert_eq!(after.lines, before.lines);
+    assert_eq!(after.areas, before.areas);
+    assert_eq!(after.volumes, before.volumes);
+    assert_eq!(after.curves, before.curves);
+    // By their words: a NaN is not equal to itself.
+    assert_eq!(format!("{:?}", after.verts), format!("{:?}", before.verts));
+}
 
 /// Everything that a geometry can be refused for answers this, and the geometry stays as it was.
 fn refused(mesh: &SimplicialGeometry, refusal: Refusal) {
     for depth in [0, 2] {
         let mut refined = mesh.clone();
         assert_eq!(refined.subdivide(true, depth), Err(refusal));
-        let lists = |m: &SimplicialGeometry| (m.points.clone(), m.lines.clone(), m.curves.clone());
-        assert_eq!(lists(&refined), lists(mesh));
-        // By their words: a NaN is not equal to itself.
-        let words = |m: &SimplicialGeometry| format!("{:?}", m.verts);
-        assert_eq!(words(&refined), words(mesh));
+        unchanged(&refined, mesh);
     }
     assert_eq!(mesh.compute_normals_3d().unwrap_err(), refusal);
     assert_eq!(mesh.compute_normals_4d().unwrap_err(), refusal);
-    let cubes = CubicalGeometry {
-        verts: mesh.verts.clone(),
-        curves: mesh.curves.clone(),
-        points: mesh.points.clone(),
-        lines: mesh.lines.clone(),
-        ..CubicalGeometry::default()
-    };
-    assert_eq!(cubes.triangulated().unwrap_err(), refusal);
-    assert_eq!(cubes.clone().subdivide(false, 1), Err(refusal));
+    let square = |[a, b, c]: [Vert; 3]| [a, b, c, c];
+    let cube = |[a, b, c, d]: [Vert; 4]| [a, b, c, d, d, c, b, a];
+    refused_cubes(
+        &CubicalGeometry {
+            verts: mesh.verts.clone(),
+            curves: mesh.curves.clone(),
+            points: mesh.points.clone(),
+            lines: mesh.lines.clone(),
+            areas: mesh.areas.clone().map(|(c, parity)| (square(c), parity)),
+            volumes: mesh.volumes.clone().map(|(c, parity)| (cube(c), parity)),
+        },
+        refusal,
+    );
+}
+
+fn refused_cubes(mesh: &CubicalGeometry, refusal: Refusal) {
+    assert_eq!(mesh.triangulated().unwrap_err(), refusal);
+    for depth in [0, 1] {
+        let mut refined = mesh.clone();
+        assert_eq!(refined.subdivide(false, depth), Err(refusal));
+        unchanged(&refined, mesh);
+    }
 }
 
 #[test]
@@ -49,16 +74,24 @@ fn coordinates() {
 #[test]
 fn vertex_numbers() {
     // The next, and one of more than 32 bits.
-    for wrong in [3, 1 << 32] {
-        let mut mesh = simplices(3);
-        mesh.mk_point(Vert::new(wrong));
-        refused(&mesh, Refusal::Vertex);
-        let mut mesh = simplices(3);
-        mesh.mk_line(v([0, wrong]), Even);
-        refused(&mesh, Refusal::Vertex);
-        let mut mesh = simplices(3);
-        mesh.curves.push(curve(&[0, wrong], &[Odd]));
-        refused(&mesh, Refusal::Vertex);
+    for wrong in [4, 1 << 32] {
+        let mut whole = simplices(4);
+        whole.mk_point(v([3])[0]);
+        whole.mk_line(v([0, 3]), Odd);
+        whole.mk_area(v([0, 1, 3]), Odd);
+        whole.mk_volume(v([0, 1, 2, 3]), Odd);
+        let changes: [&dyn Fn(&mut SimplicialGeometry); 5] = [
+            &|mesh| _ = mesh.mk_point(Vert::new(wrong)),
+            &|mesh| _ = mesh.mk_line(v([0, wrong]), Even),
+            &|mesh| _ = mesh.mk_area(v([0, 1, wrong]), Even),
+            &|mesh| _ = mesh.mk_volume(v([0, 1, 2, wrong]), Even),
+            &|mesh| _ = mesh.curves.push(curve(&[0, wrong], &[Odd])),
+        ];
+        for change in changes {
+            let mut mesh = whole.clone();
+            change(&mut mesh);
+            refused(&mesh, Refusal::Vertex);
+        }
     }
 }
 
@@ -108,6 +141,39 @@ fn the_limit_leaves_the_whole_passes() {
     // No pass fits: nothing has changed.
     assert_eq!(mesh.subdivide(false, 1), Err(Refusal::Full { passes: 0 }));
     assert_eq!(mesh, whole);
+}
+
+/// One pass more would be over the limit: what is left stands on the first bench after an even number of passes, on the second after an
+/// odd one, with every list in it.
+#[test]
+fn the_limit_after_even_and_odd_passes() {
+    let mut simplicial = simplices(5);
+    simplicial.mk_point(v([4])[0]);
+    simplicial.mk_line(v([4, 0]), Odd);
+    simplicial.mk_area(v([0, 1, 2]), Odd);
+    simplicial.mk_volume(v([0, 1, 2, 3]), Odd);
+    simplicial.curves.push(curve(&[0, 4, 1], &[Odd, Even]));
+    let mut cubical = cubes(8);
+    cubical.mk_point(v([7])[0]);
+    cubical.mk_line(v([7, 0]), Odd);
+    cubical.mk_area(v([0, 1, 2, 3]), Odd);
+    cubical.mk_volume(v([0, 1, 2, 3, 4, 5, 6, 7]), Odd);
+    cubical.curves.push(curve(&[0, 7, 1], &[Odd, Even]));
+    for passes in [6, 5] {
+        let (mut mesh, mut whole) = (simplicial.clone(), simplicial.clone());
+        assert_eq!(mesh.subdivide(true, 255), Err(Refusal::Full { passes }));
+        assert_eq!(whole.subdivide(true, passes), Ok(()));
+        assert!(mesh == whole && mesh.volumes.len() == 1 << 18);
+
+        let (mut mesh, mut whole) = (cubical.clone(), cubical.clone());
+        assert_eq!(mesh.subdivide(true, 255), Err(Refusal::Full { passes }));
+        assert_eq!(whole.subdivide(true, passes), Ok(()));
+        assert!(mesh == whole && mesh.volumes.len() == 1 << 18);
+
+        // One pass is done beforehand, so that one fewer fits.
+        simplicial.subdivide(true, 1).unwrap();
+        cubical.subdivide(true, 1).unwrap();
+    }
 }
 
 /// Lists are lent up to the limit: 2^20 lines of one place, and 8^6 cubes, are reached.

@@ -1,4 +1,4 @@
--- No refusal of a file is numbered 0, so that the exported number says whether there is a mesh; and the words that say the answer.
+-- No refusal of a file is numbered 0, so that the exported number says whether there is a mesh.
 -- Assumes nothing.
 use mathlib.Core.Path.{_≡_, refl, sym, ap, subst}
 use mathlib.Core.Bool.{Bool, true, false, cond}
@@ -8,13 +8,13 @@ use native.Mathlib.Omega.{arith}
 use lib.ListN.{length}
 use Rattle.geom.specs.declared.answer.Sizes.{Sizes}
 use Rattle.geom.specs.declared.answer.Reading.{Reading}
-use Rattle.geom.specs.Answers.{refused, Judgement, meshOfKind, noMesh, judgementOf, Opening, openingOf}
+use Rattle.geom.specs.Answers.{refused, meshOfKind, noMesh, judgementOf, Opening, openingOf}
 use Rattle.geom.specs.Book.{Kind, cubes, simplices}
 use Rattle.geom.specs.File.{Read, read, stop, Reader, andThen, judged, byte, word, several, counted, coordinate, vertex, number, parity, element, line, curveCount, curve, curves, lists, kindField, Figure, end, figure, benchesMatch, Loaded, loadedBy, loaded}
 use Rattle.geom.specs.Memory.{Bench, cells}
 use Rattle.figure.specs.Entry.{outcome}
-use Rattle.aljumeste.specs.Told.{Numbered, sizesFrom, refusalOf, kindWord, Worded, openingFrom, Says, Reads}
-use Rattle.aljumeste.proofs.Numbers.{either, sizesWords}
+use Rattle.told.specs.Told.{Numbered, Worded, Says, Reads}
+use Rattle.aljumeste.proofs.Numbers.{either}
 
 -- what was read, or a refusal that isn't numbered 0
 abbrev Counted : {A : Type 0} → Read A → Type 0
@@ -166,13 +166,6 @@ reading-worded r after first second bytes q =
     (sym q)
     (loaded-by first (cond (benchesMatch first second) (figure lent bytes) (stop 9))
     (either (λ (x : Read Figure). Counted x) (benchesMatch first second) {x = figure lent bytes} {y = stop 9} (figure-counts lent bytes) refl))
-
-pub opening-by : (r : Reading) (n kind : ℕ) → n ≡ refusalOf (judgementOf (r .opened)) → kind ≡ kindWord (judgementOf (r .opened))
-    → Worded (judgementOf (r .opened))
-    → Says n (kind ∷ sizesWords (r .sizes)) (openingOf r)
-unfolding openingOf openingFrom sizesFrom sizesWords
-opening-by r n kind p q w =
-    record { opening = ap (λ (j : Judgement). record { sizes = r .sizes; judgement = j }) (rw (p, q) w); kind = q }
 
 pub exported-reading : (n : ℕ) (words : List ℕ) (o : Opening) (after first second : Bench) (bytes : List ℕ) → Says n words o
     → outcome o after ≡ loaded first second bytes

@@ -1,3 +1,2 @@
-mod Laws
 mod Numbers
 mod Files

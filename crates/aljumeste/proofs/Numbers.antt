@@ -1,4 +1,4 @@
--- No refusal is numbered 0, so that an exported number says the whole verdict; and the words that say an answer.
+-- No refusal is numbered 0, so that an exported number says the whole verdict; and an entry's promise over sizes and an answer that are words.
 -- Assumes nothing.
 use mathlib.Core.Path.{_≡_, refl, sym, _∙_, ap, subst}
 use mathlib.Core.Bool.{Bool, true, false, cond}
@@ -19,7 +19,7 @@ use Rattle.geom.specs.Refusals.{Desk, handedIn, refinementVerdict, subdividedBy
 use Rattle.geom.specs.Triangulation.{Cuts, Triangulated, triangulationVerdict, triangulatedBy, triangulation}
 use Rattle.geom.proofs.Lists.{All}
 use Rattle.subdivision.specs.Entry.{Refines}
-use Rattle.aljumeste.specs.Told.{verdictBy, numberOf, Numbered, sizesFrom, toldOf, outcomeFrom}
+use Rattle.told.specs.Told.{Numbered}
 
 -- what holds of both cases holds of the one that is taken
 pub either : {A : Type 0} (P : A → Type 0) (b : Bool) {x y : A} → P x → P y → P (cond b x y)
@@ -57,26 +57,6 @@ refines-numbered {kind} {s} {d} {after} {depth} {time} r q =
     (sym (q .answer))
     (told-numbered s (refinementVerdict kind s d time) _ (door-numbered kind s d time) (run-numbered kind _ _ _ depth 0 _))
 
--- the eight words of an answer
-unfoldable pub words : Refined → List ℕ
-words r =
-    r .passes
-    ∷ r .sizes .vertices
-    ∷ r .sizes .points
-    ∷ r .sizes .lines
-    ∷ r .sizes .areas
-    ∷ r .sizes .volumes
-    ∷ r .sizes .curves
-    ∷ r .sizes .«curve_vertices»
-    ∷ []
-
-pub number-by : {e f : Ended} → e ≡ f → Numbered (verdictOf e) → verdictBy (numberOf (verdictOf f)) ≡ verdictOf e
-number-by p n = ap (λ (x : Ended). verdictBy (numberOf (verdictOf x))) (sym p) ∙ n
-
-pub told-by : (r : Refined) (n : ℕ) → verdictBy n ≡ verdictOf (r .ended) → toldOf n (words r) ≡ told r
-unfolding told toldOf sizesFrom words
-told-by r n h = ap (λ (v : Verdict). record { passes = r .passes; sizes = r .sizes; verdict = v }) h
-
 -- the sizes as the words state them, and the answer as the words say it
 pub exported :
     {kind : Kind} {s handed : Sizes} {d after : Desk} {depth time : ℕ} {t u : Told} → handed ≡ s → u ≡ t → Refines kind handed d after depth time t
@@ -106,15 +86,6 @@ triangulates-numbered a after s b out q =
     (λ (t : Triangulated). Numbered (t .outcome .verdict))
     (sym q)
     (triangulated-numbered (triangulationVerdict s b out) s _ out (cut-numbered s b out))
-
--- the seven words of an answer
-unfoldable pub sizesWords : Sizes → List ℕ
-sizesWords s =
-    s .vertices ∷ s .points ∷ s .lines ∷ s .areas ∷ s .volumes ∷ s .curves ∷ s .«curve_vertices» ∷ []
-
-pub outcome-by : (a : Answer) (n : ℕ) → verdictBy n ≡ verdictOf (a .ended) → outcomeFrom n (sizesWords (a .sizes)) ≡ outcomeOf a
-unfolding outcomeOf outcomeFrom sizesFrom sizesWords
-outcome-by a n h = ap (λ (v : Verdict). record { sizes = a .sizes; verdict = v }) h
 
 pub exported-cut : (b : Bench) (before after : Cuts) (s handed : Sizes) (x y : Outcome) → handed ≡ s → y ≡ x
     → _≡_ {A = Triangulated} (record { outcome = x; out = after }) (triangulation handed b before)

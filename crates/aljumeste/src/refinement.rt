@@ -1,36 +1,13 @@
 // Document 01: the refinements, as other languages link them. A slice crosses as its pointer and its length. Any words in any slices of
 // any lengths, any sizes, any bytes: every call is answered.
-ghost use mathlib.Core.Path.{_≡_};
-ghost use Rattle.geom.specs.Answers.{verdictOf, told};
 ghost use Rattle.geom.specs.Book.{cubes, simplices};
 ghost use Rattle.judge.specs.Judged.{bench};
 ghost use Rattle.subdivision.specs.Entry.{desk, Refines};
-ghost use Rattle.aljumeste.specs.Told.{sizesFrom, Numbered, toldOf};
-use crate::words::number;
-use crate::words::stated;
-use geom::answer::Refined;
+ghost use Rattle.told.specs.Told.{sizesFrom, toldOf};
 use geom::kind::Kind;
 use subdivision::subdivide;
-
-// Writes an answer as eight words, the passes and the sizes, and gives the number: 0 when finished, else the refusal's.
-fn tell(r: Refined, answer: &mut [usize; 8]) -> u8
-    requires { ⌜ Numbered (verdictOf (r .ended)) ⌝ }
-    ensures { λ n. ⌜ toldOf n (now (answer .exit)) ≡ told r ⌝ }
-{
-    let sizes = r.sizes;
-    *answer = [
-        r.passes as usize,
-        sizes.vertices,
-        sizes.points,
-        sizes.lines,
-        sizes.areas,
-        sizes.volumes,
-        sizes.curves,
-        sizes.curve_vertices,
-    ];
-    let ended = r.ended;
-    number(ended)
-}
+use told::words::stated;
+use told::words::tell;
 
 // The refinement of simplices: the words of two benches, of the book and of smoothing, the sizes handed in, the depth and the smooth_time
 // byte. Answers 0 when finished, else the refusal's number; `answer` is left with the passes, then the sizes of the mesh left.

@@ -3,11 +3,11 @@
 ghost use mathlib.Core.Path.{_≡_};
 ghost use Rattle.geom.specs.Normals.{Shaded, shading3, shading4};
 ghost use Rattle.judge.specs.Judged.{bench};
-ghost use Rattle.aljumeste.specs.Told.{sizesFrom, verdictBy};
-use crate::words::number;
-use crate::words::stated;
+ghost use Rattle.told.specs.Told.{sizesFrom, verdictBy};
 use normals::compute_normals_3d;
 use normals::compute_normals_4d;
+use told::words::number;
+use told::words::stated;
 
 // The normals of simplices in three dimensions: the words of one bench and the sizes handed in, and the list lent for normals, 3 words a vertex.
 // Answers 0 when finished, else the refusal's number.

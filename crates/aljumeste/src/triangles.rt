@@ -1,34 +1,13 @@
 // Document 01, section 6: the triangulation, as other languages link it. Any words in any slices of any lengths, any sizes: every call is
 // answered.
 ghost use mathlib.Core.Path.{_≡_};
-ghost use Rattle.geom.specs.Answers.{verdictOf, outcomeOf};
 ghost use Rattle.geom.specs.Triangulation.{Triangulated, triangulation};
 ghost use Rattle.judge.specs.Judged.{bench};
 ghost use Rattle.triangulation.specs.Entry.{cuts};
-ghost use Rattle.aljumeste.specs.Told.{sizesFrom, Numbered, outcomeFrom};
-use crate::words::number;
-use crate::words::stated;
-use geom::answer::Answer;
+ghost use Rattle.told.specs.Told.{sizesFrom, outcomeFrom};
+use told::words::stated;
+use told::words::tell_sizes;
 use triangulation::triangulate;
-
-// Writes an answer as seven words, the sizes, and gives the number: 0 when finished, else the refusal's.
-fn tell_sizes(a: Answer, answer: &mut [usize; 7]) -> u8
-    requires { ⌜ Numbered (verdictOf (a .ended)) ⌝ }
-    ensures { λ n. ⌜ outcomeFrom n (now (answer .exit)) ≡ outcomeOf a ⌝ }
-{
-    let sizes = a.sizes;
-    *answer = [
-        sizes.vertices,
-        sizes.points,
-        sizes.lines,
-        sizes.areas,
-        sizes.volumes,
-        sizes.curves,
-        sizes.curve_vertices,
-    ];
-    let ended = a.ended;
-    number(ended)
-}
 
 // Cubes cut into simplices: the words of one bench and the sizes handed in, and the lists lent for triangles, 4 words a cell, and tetrahedra, 5
 // words a cell. Answers 0 when finished, else the refusal's number; `answer` is left with the sizes of the mesh that the caller has then.

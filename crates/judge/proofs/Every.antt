@@ -8,16 +8,16 @@ use Prim.Native.Nat.{ℕ, zero, suc, _+_, _*_, _≤_, _<_}
 use native.Mathlib.Nat.{mul-suc, mul-le-mul-left, eq-or-lt-of-le, add-zero}
 use native.Mathlib.Numerals.{add-one}
 use native.Mathlib.Omega.{arith}
-use lib.Dec.{leb·suc-suc}
+use lib.Dec.{ltb, leb·suc-suc}
 use lib.Ieee.{Float}
 use lib.ListN.{length, getD, take, drop, length-drop}
-use borrow.Author.Tests.{lt-ltb, le-ltb}
+use borrow.Author.Tests.{lt-ltb}
 use Rattle.numbers.specs.Binary32 as Binary32
 use Rattle.geom.specs.declared.vertex.Vertex.{Vertex}
 use lib.Seq.{take-suc, getD-drop}
 use Rattle.geom.specs.Memory.{ElementRow, StepRow, firstOf, vertexRow, elementRow, stepRow}
 use Rattle.geom.specs.Refusals.{every, goodNumber, goodFlags, goodParity, goodCoordinate, goodPosition}
-use Rattle.judge.specs.Words.{wordAt, columnBelow, Column, Elements}
+use Rattle.judge.specs.Words.{wordAt, columnBelow, wordsBelow, Column, Elements}
 use Rattle.geom.proofs.Lists.{and-true, and-false}
 
 and-assoc : (a b c : Bool) → (a && b && c) ≡ (a && (b && c))
@@ -48,6 +48,10 @@ module _ {A : Type 0} (test : A → Bool) (at : ℕ → A) where
   pub every-on : (i : ℕ) → every test (firstOf at i) ≡ true → test (at i) ≡ true → every test (firstOf at (i + 1)) ≡ true
   every-on i p q = rw (add-one, every-suc i, p) q
 
+  -- on: a row of a loop that looks at every row, whether it passes or not
+  pub every-with : (i : ℕ) (all good : Bool) → all ≡ every test (firstOf at i) → good ≡ test (at i) → (all && good) ≡ every test (firstOf at (i + 1))
+  every-with i all good p q = rw (add-one, every-suc i, ← p, ← q) refl
+
   -- stopped: a row that does not
   pub every-off : (i n : ℕ) → i < n → test (at i) ≡ false → every test (firstOf at n) ≡ false
   every-off i zero h q = absurd (omega arith)
@@ -57,9 +61,22 @@ module _ {A : Type 0} (test : A → Bool) (at : ℕ → A) where
       go rest (inl e) = rw (← e, q) (and-false (every test (firstOf at i)))
       go rest (inr l) = rw (rest l q) refl
 
-  -- done: all rows passed
-  pub every-done : (i n : ℕ) → i ≤ n → n ≤ i → every test (firstOf at i) ≡ true → true ≡ every test (firstOf at n)
-  every-done i n h k p = let e : i ≡ n = omega arith in sym (rw e at p)
+  -- done: what is known of the rows looked at is known of all
+  pub every-done : (i n : ℕ) (all : Bool) → i ≤ n → n ≤ i → all ≡ every test (firstOf at i) → all ≡ every test (firstOf at n)
+  every-done i n all h k p = let e : i ≡ n = omega arith in rw e at p
+
+  -- each row passes where all do
+  every-at : (i n : ℕ) → i < n → every test (firstOf at n) ≡ true → test (at i) ≡ true
+  every-at i n h p = go (test (at i)) refl
+    where
+      go : (b : Bool) → test (at i) ≡ b → b ≡ true
+      go true e = refl
+      go false e = sym (every-off i n h e) ∙ p
+
+  -- all rows pass where each does
+  every-all : (n : ℕ) → ((i : ℕ) → i < n → test (at i) ≡ true) → every test (firstOf at n) ≡ true
+  every-all zero h = every-start
+  every-all (suc n) h = every-suc n ∙ ap₂ _&&_ (every-all n (λ i k. h i (omega arith))) (h n (omega arith))
 
 -- the same test, said of other rows
 pub every-same : {A B : Type 0} (test : A → Bool) (at : ℕ → A) (test′ : B → Bool) (at′ : ℕ → B) (n : ℕ)
@@ -73,13 +90,16 @@ every-same test at test′ at′ (suc n) h =
 
 -- ---- words below a bound
 
-pub number-off : (bound w r : ℕ) → r ≡ w → bound ≤ r → goodNumber bound w ≡ false
+-- a word, compared as it was read
+pub number-below : (bound w r : ℕ) → r ≡ w → ltb r bound ≡ goodNumber bound w
 unfolding goodNumber
-number-off bound w r e h = le-ltb w bound (omega arith)
+number-below bound w r e = ap (λ (k : ℕ). ltb k bound) e
 
-pub number-on : (bound w r : ℕ) → r ≡ w → r < bound → goodNumber bound w ≡ true
+-- no word reaches a bound that is past them all
+pub words-narrow : (words : List ℕ) (n bound limit : ℕ) → ((i : ℕ) → getD words i 0 < limit) → limit ≤ bound → true ≡ wordsBelow words n bound
 unfolding goodNumber
-number-on bound w r e h = lt-ltb w bound (omega arith)
+words-narrow words n bound limit narrow h =
+    sym (every-all (goodNumber bound) (λ (i : ℕ). getD words i 0) n (λ i l. lt-ltb (getD words i 0) bound (omega (arith, narrow i))))
 
 -- rows of a fixed width that stand whole in a slice
 pub rows-column : (words : List ℕ) (width column rows : ℕ) → column < width → width * rows ≤ length words → Column words width column rows
@@ -89,6 +109,10 @@ rows-column words width column rows h room =
 pub elements-column : (words : List ℕ) (corners rows : ℕ) → Elements words corners rows → Column words (corners + 1) corners rows
 elements-column words corners rows e =
     rw (add-one corners) (rows-column words (suc corners) corners rows (omega arith) (e .room))
+
+-- the words of all elements stand in the slice
+pub elements-words : (words : List ℕ) (corners rows : ℕ) → Elements words corners rows → (corners + 1) * rows ≤ length words
+elements-words words corners rows e = rw (add-one corners) (e .room)
 
 -- the corners of row i
 pub row-end : (words : List ℕ) (corners rows i : ℕ) → Elements words corners rows → i < rows → (corners + 1) * i + corners < length words
@@ -116,6 +140,19 @@ row-corners words corners rows i count e h =
     ap (every (goodNumber count)) (firstOf-take words ((corners + 1) * i) corners (omega arith)
     ∙ ap (λ (k : ℕ). take corners (drop (k * i) words)) (add-one corners))
 
+-- where every word of the elements is below the count, every corner is
+pub words-corners : (words : List ℕ) (corners rows count : ℕ) → Elements words corners rows → wordsBelow words ((corners + 1) * rows) count ≡ true
+    → true ≡ every (λ (e : ElementRow). every (goodNumber count) (e .corners)) (firstOf (elementRow corners words) rows)
+words-corners words corners rows count e p =
+    sym (every-all (λ (e : ElementRow). every (goodNumber count) (e .corners)) (elementRow corners words) rows
+    (λ i h. sym (row-corners words corners rows i count e h) ∙ row i h))
+  where
+    row : (i : ℕ) → i < rows → columnBelow words 1 ((corners + 1) * i) corners count ≡ true
+    row i h =
+        every-all (goodNumber count) (wordAt words 1 ((corners + 1) * i)) corners (λ k l.
+        let m : 1 * k + (corners + 1) * i < (corners + 1) * rows = omega (arith, mul-suc (corners + 1) i, mul-le-mul-left (corners + 1) h) in
+        every-at (goodNumber count) (λ (j : ℕ). getD words j 0) (1 * k + (corners + 1) * i) ((corners + 1) * rows) m p)
+
 -- ---- columns as the rows' tests
 
 pub flags-column : (positions : List Float) (marks : List ℕ) (n : ℕ)
@@ -131,12 +168,6 @@ unfolding goodNumber goodParity elementRow
 parities-column words corners n =
     every-same (goodNumber 2) (wordAt words (corners + 1) corners) (λ (e : ElementRow). goodParity (e .parity)) (elementRow corners words) n
     (λ i h. rw (add-one corners) (leb·suc-suc (getD words (suc corners * i + corners) 0) 1))
-
-pub points-column : (points : List ℕ) (n count : ℕ)
-    → columnBelow points 1 0 n count ≡ every (goodNumber count) (firstOf (λ (i : ℕ). getD points i 0) n)
-points-column points n count =
-    every-same (goodNumber count) (wordAt points 1 0) (goodNumber count) (λ (i : ℕ). getD points i 0) n
-    (λ i h. let e : 1 * i + 0 ≡ i = omega arith in rw e refl)
 
 pub steps-column : (steps : List ℕ) (n count : ℕ)
     → columnBelow steps 2 0 n count ≡ every (λ (s : StepRow). goodNumber count (s .vertex)) (firstOf (stepRow steps) n)

@@ -200,5 +200,5 @@ module _ (curves : List ℕ) (rows : ℕ) (steps : List ℕ) (total : ℕ) where
   pub walking-done : (start i : ℕ) → Walking curves rows steps total start i → rows ≤ i
       → true ≡ every passes (curveParts (firstOf (curveRow curves) rows) (firstOf (stepRow steps) total))
   walking-done start i w h =
-      every-done passes (part (curveRow curves) (firstOf (stepRow steps) total)) i rows (w .within) h (w .passed)
+      every-done passes (part (curveRow curves) (firstOf (stepRow steps) total)) i rows true (w .within) h (sym (w .passed))
       ∙ sym (ap (every passes) (parts-rows (curveRow curves) rows (firstOf (stepRow steps) total)))

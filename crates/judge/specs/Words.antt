@@ -17,6 +17,10 @@ wordAt words width column i = getD words (width * i + column) 0
 abbrev pub columnBelow : List ℕ → ℕ → ℕ → ℕ → ℕ → Bool
 columnBelow words width column rows bound = every (goodNumber bound) (firstOf (wordAt words width column) rows)
 
+-- each of the first words is below the bound
+abbrev pub wordsBelow : List ℕ → ℕ → ℕ → Bool
+wordsBelow words end bound = every (goodNumber bound) (firstOf (λ (i : ℕ). getD words i 0) end)
+
 -- that word stands in the slice for each row
 pub record Column (words : List ℕ) (width column rows : ℕ) : Type 0 where
   pub stands : (i : ℕ) → i < rows → width * i + column < length words

@@ -1,4 +1,5 @@
-// Document 01, refusals 5 to 8: loops over the words of one list, each ending at the first word that is refused.
+// Document 01, refusals 5 to 8: loops over the words of one list. A loop over words looks at each of them; one over elements or curves ends at the
+// first that is refused.
 ghost use mathlib.Core.Path.{_≡_};
 ghost use mathlib.Core.List.{List};
 ghost use Prim.Native.Nat.{ℕ, _+_, _*_, _≤_, _<_};
@@ -8,21 +9,45 @@ ghost use lib.ListN.{length, getD, take, drop};
 ghost use Rattle.geom.specs.declared.vertex.Vertex.{Vertex};
 ghost use Rattle.geom.specs.Memory.{ElementRow, StepRow, firstOf, vertexRow, elementRow, curveRow, stepRow, stepWords, curveParts};
 ghost use Rattle.geom.specs.Refusals.{every, goodFlags, goodParity, goodCoordinate, goodPosition, goodNumber, goodCurve, curveLengths};
-ghost use Rattle.judge.specs.Words.{columnBelow, Column, Elements, Parts};
+ghost use Rattle.judge.specs.Words.{columnBelow, wordsBelow, Column, Elements, Parts};
 use geom::words::number;
 use geom::words::word;
 
-// Whether one word of each row is below the bound.
+// Whether one word of each row is below the bound. Every row is looked at, so that the compiler takes several at once.
 pub fn column_below(words: &[u32], width: usize, column: usize, rows: usize, bound: usize) -> bool
     requires { ⌜ Column (now words) width column rows ⌝ }
     ensures { λ r. ⌜ r ≡ columnBelow (now (words .entry)) width column rows bound ⌝ }
 {
+    let mut all = true;
     let mut i: usize = 0;
     while i < rows {
-        if bound <= word(words, width * i + column) {
-            return false;
-        }
+        all = all & (word(words, width * i + column) < bound);
         i += 1;
+    }
+    all
+}
+
+// Whether each of the first words is below the bound, which is as wide as they are: several are compared at once.
+fn words_below(words: &[u32], end: usize, bound: u32) -> bool
+    requires { ⌜ end ≤ length (now words) ⌝ }
+    ensures { λ r. ⌜ r ≡ wordsBelow (now (words .entry)) end bound ⌝ }
+{
+    let mut all = true;
+    let mut i: usize = 0;
+    while i < end {
+        all = all & (words[i] < bound);
+        i += 1;
+    }
+    all
+}
+
+// The same for any bound: no word reaches 2^32.
+fn all_below(words: &[u32], end: usize, bound: usize) -> bool
+    requires { ⌜ end ≤ length (now words) ⌝ }
+    ensures { λ r. ⌜ r ≡ wordsBelow (now (words .entry)) end bound ⌝ }
+{
+    if bound < 4294967296 {
+        return words_below(words, end, bound as u32);
     }
     true
 }
@@ -48,6 +73,10 @@ pub fn corners_hold(words: &[u32], corners: usize, rows: usize, count: usize) ->
     requires { ⌜ Elements (now words) corners rows ⌝ }
     ensures { λ r. ⌜ r ≡ every (λ (e : ElementRow). every (goodNumber count) (e .corners)) (firstOf (elementRow corners (now (words .entry))) rows) ⌝ }
 {
+    // Where every word is below the count, the parities too, so is every corner: no row is looked at by itself.
+    if all_below(words, (corners + 1) * rows, count) {
+        return true;
+    }
     let mut i: usize = 0;
     while i < rows {
         let start = (corners + 1) * i;
@@ -64,7 +93,7 @@ pub fn points_hold(points: &[u32], rows: usize, count: usize) -> bool
     requires { ⌜ rows ≤ length (now points) ⌝ }
     ensures { λ r. ⌜ r ≡ every (goodNumber count) (firstOf (λ (i : ℕ). getD (now (points .entry)) i 0) rows) ⌝ }
 {
-    column_below(points, 1, 0, rows, count)
+    all_below(points, rows, count)
 }
 
 // 7: each curve vertex is below the count.
@@ -94,10 +123,7 @@ pub fn curves_hold(curves: &[u32], rows: usize) -> bool
 pub fn coordinate_holds(c: f32) -> bool
     ensures { λ r. ⌜ r ≡ goodCoordinate c ⌝ }
 {
-    if -1024.0 <= c {
-        return c <= 1024.0;
-    }
-    false
+    (-1024.0 <= c) & (c <= 1024.0)
 }
 
 // 6: each coordinate of each vertex.
@@ -106,14 +132,13 @@ pub fn positions_hold(positions: &[f32], vertices: usize) -> bool
     ensures { λ r. ⌜ ((marks : List ℕ) → r ≡ every (λ (v : Vertex). goodPosition (v .position)) (firstOf (vertexRow (now (positions .entry)) marks) vertices)) ⌝ }
 {
     let end = 4 * vertices;
+    let mut all = true;
     let mut i: usize = 0;
     while i < end {
-        if !coordinate_holds(number(positions, i)) {
-            return false;
-        }
+        all = all & coordinate_holds(number(positions, i));
         i += 1;
     }
-    true
+    all
 }
 
 // 9: the curves' lengths add up to the curve vertices. What is left of the total is counted down, so no sum is formed.

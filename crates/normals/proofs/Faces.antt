@@ -6,9 +6,11 @@ use mathlib.Core.List.{List, [], _∷_, _++_}
 use Prim.Native.Nat.{ℕ, _+_, _*_, _≤_}
 use native.Mathlib.Omega.{arith}
 use lib.Dec.{eqb}
-use lib.Ieee.{Float}
+use lib.Ieee.{Float, neg, binary32}
 use lib.ListN.{length, getD, take, drop}
 use borrow.Author.Tests.{eq-eqb, ne-eqb, not-true, not-false}
+use Rattle.numbers.proofs.Products.{sign-moves}
+use Rattle.numbers.specs.Binary32.{_⊗_}
 use Rattle.numbers.specs.Points3 as Points3
 use Rattle.numbers.specs.Points4 as Points4
 use Rattle.numbers.specs.declared.vec3.Vec3.{Vec3}
@@ -16,10 +18,10 @@ use Rattle.numbers.specs.declared.vec4.Vec4.{Vec4}
 use Rattle.geom.specs.declared.parity.Parity.{Parity}
 use Rattle.geom.specs.Elements.{Element}
 use Rattle.geom.specs.Memory.{elementRow, elementOf, parityOf}
-use Rattle.geom.specs.Normals.{sign, toCorners, xyz, areaNormal, threeCorners, volumeNormal}
+use Rattle.geom.specs.Normals.{sign, toCorners, xyz, areaNormal, threeCorners, axis, volumeNormal}
 use Rattle.vertices.specs.Cells.{pointRow, verticesOf, Elements}
 use Rattle.vertices.proofs.Gathering.{part-more, position-of}
-use Rattle.normals.specs.Cells.{elementAt, vectorRow, Holds, Three, Four, areaStep, minorsOf, volumeStep}
+use Rattle.normals.specs.Cells.{elementAt, vectorRow, Holds, Three, Four, areaStep, products, firstAxes, secondAxes, thirdAxes, crossProducts, minorsOf, signsOf, volumeStep}
 
 -- ---- three different corners
 
@@ -36,6 +38,28 @@ module _ (a b c : ℕ) where
   unfolding threeCorners
   third-left n m = rw (ne-eqb a b n, ne-eqb b c m) refl
 
+-- ---- the minors, four at once
+
+-- the determinants of three axes each, worked out together
+pub minors-are : (a b c a₁ a₂ a₃ b₁ b₂ b₃ c₁ c₂ c₃ m₁ m₂ m₃ f₁ f₂ f₃ d r : Vec4)
+    → b₁ ≡ firstAxes b → b₂ ≡ secondAxes b → b₃ ≡ thirdAxes b → c₁ ≡ firstAxes c → c₂ ≡ secondAxes c → c₃ ≡ thirdAxes c
+    → a₁ ≡ firstAxes a → m₁ ≡ crossProducts b₂ b₃ c₂ c₃ → f₁ ≡ products a₁ m₁
+    → a₂ ≡ secondAxes a → m₂ ≡ crossProducts b₁ b₃ c₁ c₃ → f₂ ≡ products a₂ m₂
+    → a₃ ≡ thirdAxes a → m₃ ≡ crossProducts b₁ b₂ c₁ c₂ → f₃ ≡ products a₃ m₃
+    → d ≡ Points4.difference f₁ f₂ → r ≡ Points4.sum d f₃ → r ≡ minorsOf a b c
+unfolding minorsOf axis Points3.determinant Points4.difference Points4.sum
+minors-are a b c a₁ a₂ a₃ b₁ b₂ b₃ c₁ c₂ c₃ m₁ m₂ m₃ f₁ f₂ f₃ d r eb₁ eb₂ eb₃ ec₁ ec₂ ec₃ ea₁ em₁ ef₁ ea₂ em₂ ef₂ ea₃ em₃ ef₃ ed er =
+    let first = ef₁ ∙ ap₂ products ea₁ (em₁ ∙ (λ i. crossProducts (eb₂ i) (eb₃ i) (ec₂ i) (ec₃ i))) in
+    let second = ef₂ ∙ ap₂ products ea₂ (em₂ ∙ (λ i. crossProducts (eb₁ i) (eb₃ i) (ec₁ i) (ec₃ i))) in
+    let third = ef₃ ∙ ap₂ products ea₃ (em₃ ∙ (λ i. crossProducts (eb₁ i) (eb₂ i) (ec₁ i) (ec₂ i))) in
+    er ∙ ap₂ Points4.sum (ed ∙ ap₂ Points4.difference first second) third
+
+-- the minors times their signs, each times the sign by parity, are the sign by parity times the signed minors
+signed : (p : Parity) (n : Vec4) → products (signsOf p) n ≡ Points4.scaled (sign p) (record { x = neg (n .x); y = n .y; z = neg (n .z); w = n .w })
+unfolding Points4.scaled
+signed p n =
+    λ i. record { x = sign-moves binary32 (sign p) (n .x) i; y = sign p ⊗ n .y; z = sign-moves binary32 (sign p) (n .z) i; w = sign p ⊗ n .w }
+
 -- ---- an element's normal, from the positions of its corners
 
 module _ (positions : List Float) (count : ℕ) (p : Parity) (marks : List ℕ) where
@@ -50,18 +74,18 @@ module _ (positions : List Float) (count : ℕ) (p : Parity) (marks : List ℕ) 
       let z = e₃ ∙ ap xyz (sym (position-of positions marks count c (t .third))) in
       er ∙ ap₂ Points3.scaled ek (en ∙ ap₂ Points3.cross (f₁ ∙ ap₂ Points3.difference y x) (f₂ ∙ ap₂ Points3.difference z y))
 
-  pub volume-is : (a b c d : ℕ) → Four a b c d count → (o v₁ v₂ v₃ d₁ d₂ d₃ n r : Vec4) (k : Float)
+  pub volume-is : (a b c d : ℕ) → Four a b c d count → (o v₁ v₂ v₃ d₁ d₂ d₃ n k r : Vec4)
       → o ≡ pointRow positions a → v₁ ≡ pointRow positions b → v₂ ≡ pointRow positions c → v₃ ≡ pointRow positions d
       → d₁ ≡ Points4.difference v₁ o → d₂ ≡ Points4.difference v₂ o → d₃ ≡ Points4.difference v₃ o
-      → n ≡ minorsOf d₁ d₂ d₃ → k ≡ sign p → r ≡ Points4.scaled k n
+      → n ≡ minorsOf d₁ d₂ d₃ → k ≡ signsOf p → r ≡ products k n
       → r ≡ volumeNormal (verticesOf positions marks count) (record { corners = a ∷ b ∷ c ∷ d ∷ []; parity = p })
   unfolding volumeNormal minorsOf
-  volume-is a b c d t o v₁ v₂ v₃ d₁ d₂ d₃ n r k eo e₁ e₂ e₃ f₁ f₂ f₃ en ek er =
+  volume-is a b c d t o v₁ v₂ v₃ d₁ d₂ d₃ n k r eo e₁ e₂ e₃ f₁ f₂ f₃ en ek er =
       let w = eo ∙ sym (position-of positions marks count a (t .first)) in
       let x = f₁ ∙ ap₂ Points4.difference (e₁ ∙ sym (position-of positions marks count b (t .second))) w in
       let y = f₂ ∙ ap₂ Points4.difference (e₂ ∙ sym (position-of positions marks count c (t .third))) w in
       let z = f₃ ∙ ap₂ Points4.difference (e₃ ∙ sym (position-of positions marks count d (t .fourth))) w in
-      er ∙ ap₂ Points4.scaled ek (en ∙ (λ i. minorsOf (x i) (y i) (z i)))
+      er ∙ ap₂ products ek (en ∙ (λ i. minorsOf (x i) (y i) (z i))) ∙ signed p (minorsOf _ _ _)
 
 -- ---- the element that the words stand for
 

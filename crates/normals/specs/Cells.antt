@@ -8,14 +8,16 @@ use Prim.Native.Nat.{ℕ, _+_, _*_, _<_}
 use lib.Ieee.{Float, neg}
 use lib.ListN.{getD, drop}
 use Rattle.numbers.specs.Binary32 as Binary32
+use Rattle.numbers.specs.Binary32.{_⊗_}
 use Rattle.numbers.specs.Points3 as Points3
 use Rattle.numbers.specs.Points4 as Points4
 use Rattle.numbers.specs.declared.vec3.Vec3.{Vec3}
 use Rattle.numbers.specs.declared.vec4.Vec4.{Vec4}
+use Rattle.geom.specs.declared.parity.Parity.{Parity}
 use Rattle.geom.specs.declared.vertex.Vertex.{Vertex}
 use Rattle.geom.specs.Elements.{Element}
 use Rattle.geom.specs.Memory.{elementRow, elementOf}
-use Rattle.geom.specs.Normals.{toCorners, areaNormal, threeCorners, axis, volumeNormal}
+use Rattle.geom.specs.Normals.{sign, toCorners, areaNormal, threeCorners, axis, volumeNormal}
 
 -- element i, from the words that stand for it
 abbrev pub elementAt : ℕ → List ℕ → ℕ → Element
@@ -64,7 +66,25 @@ areaStep vertices e u s = cond (threeCorners (e .corners)) (toCorners Points3.su
 unfoldable pub volumeStep : List Vertex → Element → ℕ → Vec4 → Vec4
 volumeStep vertices e u s = toCorners Points4.sum (volumeNormal vertices e) u (e .corners) s
 
--- the minors of three differences, with the signs -, +, -, +
+-- the products of two points, axis by axis
+abbrev pub products : Vec4 → Vec4 → Vec4
+products p q = record { x = p .x ⊗ q .x; y = p .y ⊗ q .y; z = p .z ⊗ q .z; w = p .w ⊗ q .w }
+
+-- where each axis in turn is left out, the first, second and third of those that are left
+abbrev pub firstAxes : Vec4 → Vec4
+firstAxes p = record { x = p .y; y = p .x; z = p .x; w = p .x }
+
+abbrev pub secondAxes : Vec4 → Vec4
+secondAxes p = record { x = p .z; y = p .z; z = p .y; w = p .y }
+
+abbrev pub thirdAxes : Vec4 → Vec4
+thirdAxes p = record { x = p .w; y = p .w; z = p .w; w = p .z }
+
+-- p·s - q·r, axis by axis
+abbrev pub crossProducts : Vec4 → Vec4 → Vec4 → Vec4 → Vec4
+crossProducts p q r s = Points4.difference (products p s) (products q r)
+
+-- the minors of three differences: for each axis the determinant of the other three
 unfoldable pub minorsOf : Vec4 → Vec4 → Vec4 → Vec4
 minorsOf a b c =
     let xs = axis (λ (p : Vec4). p .x) a b c in
@@ -72,8 +92,12 @@ minorsOf a b c =
     let zs = axis (λ (p : Vec4). p .z) a b c in
     let ws = axis (λ (p : Vec4). p .w) a b c in
     record {
-      x = neg (Points3.determinant ys zs ws);
+      x = Points3.determinant ys zs ws;
       y = Points3.determinant xs zs ws;
-      z = neg (Points3.determinant xs ys ws);
+      z = Points3.determinant xs ys ws;
       w = Points3.determinant xs ys zs;
     }
+
+-- their signs, -, +, -, +, each times the sign by parity
+abbrev pub signsOf : Parity → Vec4
+signsOf p = record { x = neg (sign p); y = sign p; z = neg (sign p); w = sign p }

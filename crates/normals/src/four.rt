@@ -9,7 +9,7 @@ ghost use Rattle.numbers.specs.Normal.{normalised4, cells4};
 ghost use Rattle.geom.specs.Memory.{firstOf, over};
 ghost use Rattle.geom.specs.Normals.{volumeNormal, toCorners, gather4};
 ghost use Rattle.vertices.specs.Cells.{positionWords, pointRow, verticesOf, elementsOf, Elements};
-ghost use Rattle.normals.specs.Cells.{elementAt, minorsOf, volumeStep, Holds, Four};
+ghost use Rattle.normals.specs.Cells.{elementAt, products, firstAxes, secondAxes, thirdAxes, crossProducts, minorsOf, signsOf, volumeStep, Holds, Four};
 use crate::cells::clear;
 use crate::sign::sign;
 use geom::parity::Parity;
@@ -17,41 +17,92 @@ use geom::words::parity_of;
 use geom::words::word;
 use numbers::normal::Normal4;
 use numbers::normal::normalise4;
-use numbers::vec3::Vec3;
-use numbers::vec3::determinant;
 use numbers::vec4::Vec4;
 use vertices::cells::point_at;
 use vertices::cells::put_point;
 
-// The minors of three differences, axis by axis, with the signs -, +, -, +.
+// The products of two points, axis by axis.
+fn times(p: Vec4, q: Vec4) -> Vec4
+    ensures { λ r. ⌜ r ≡ products p q ⌝ }
+{
+    Vec4 {
+        x: p.x * q.x,
+        y: p.y * q.y,
+        z: p.z * q.z,
+        w: p.w * q.w,
+    }
+}
+
+// Where each axis in turn is left out, the first of the three that are left.
+fn firsts(p: Vec4) -> Vec4
+    ensures { λ r. ⌜ r ≡ firstAxes p ⌝ }
+{
+    Vec4 {
+        x: p.y,
+        y: p.x,
+        z: p.x,
+        w: p.x,
+    }
+}
+
+// The second of them.
+fn seconds(p: Vec4) -> Vec4
+    ensures { λ r. ⌜ r ≡ secondAxes p ⌝ }
+{
+    Vec4 {
+        x: p.z,
+        y: p.z,
+        z: p.y,
+        w: p.y,
+    }
+}
+
+// The third of them.
+fn thirds(p: Vec4) -> Vec4
+    ensures { λ r. ⌜ r ≡ thirdAxes p ⌝ }
+{
+    Vec4 {
+        x: p.w,
+        y: p.w,
+        z: p.w,
+        w: p.z,
+    }
+}
+
+// p·s - q·r, four at once.
+fn crossed(p: Vec4, q: Vec4, r: Vec4, s: Vec4) -> Vec4
+    ensures { λ m. ⌜ m ≡ crossProducts p q r s ⌝ }
+{
+    times(p, s).sub(times(q, r))
+}
+
+// The minors of three differences: for each axis the determinant of the other three. All four are worked out together, so that one
+// instruction serves them.
 fn minors(a: Vec4, b: Vec4, c: Vec4) -> Vec4
     ensures { λ r. ⌜ r ≡ minorsOf a b c ⌝ }
 {
-    let xs = Vec3 {
-        x: a.x,
-        y: b.x,
-        z: c.x,
-    };
-    let ys = Vec3 {
-        x: a.y,
-        y: b.y,
-        z: c.y,
-    };
-    let zs = Vec3 {
-        x: a.z,
-        y: b.z,
-        z: c.z,
-    };
-    let ws = Vec3 {
-        x: a.w,
-        y: b.w,
-        z: c.w,
-    };
+    let b1 = firsts(b);
+    let b2 = seconds(b);
+    let b3 = thirds(b);
+    let c1 = firsts(c);
+    let c2 = seconds(c);
+    let c3 = thirds(c);
+    let first = times(firsts(a), crossed(b2, b3, c2, c3));
+    let second = times(seconds(a), crossed(b1, b3, c1, c3));
+    let third = times(thirds(a), crossed(b1, b2, c1, c2));
+    first.sub(second).add(third)
+}
+
+// The signs of the minors, -, +, -, +, each times the sign by parity.
+fn signs(parity: Parity) -> Vec4
+    ensures { λ r. ⌜ r ≡ signsOf parity ⌝ }
+{
+    let s = sign(parity);
     Vec4 {
-        x: -determinant(ys, zs, ws),
-        y: determinant(xs, zs, ws),
-        z: -determinant(xs, ys, ws),
-        w: determinant(xs, ys, zs),
+        x: -s,
+        y: s,
+        z: -s,
+        w: s,
     }
 }
 
@@ -73,7 +124,10 @@ fn volume_normal(
     let v1 = point_at(positions, b);
     let v2 = point_at(positions, c);
     let v3 = point_at(positions, d);
-    minors(v1.sub(origin), v2.sub(origin), v3.sub(origin)).scale(sign(parity))
+    times(
+        signs(parity),
+        minors(v1.sub(origin), v2.sub(origin), v3.sub(origin)),
+    )
 }
 
 // A normal is added to the sum of vertex v.

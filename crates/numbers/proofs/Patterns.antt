@@ -1,18 +1,19 @@
--- Bit patterns of binary32: the number that a pattern stands for, and the pattern of a number given by its digits. Assumes nothing.
+-- Bit patterns of binary32: the number that a pattern stands for, and the pattern of a number given by its digits; and which patterns of either format are no
+-- NaN's. Assumes nothing.
 use mathlib.Core.Path.{_≡_, refl, sym, ap, _∙_, subst}
 use mathlib.Core.Logic.{⊎-elim}
-use mathlib.Core.Bool.{Bool, true, false, not}
+use mathlib.Core.Bool.{Bool, true, false, not, _&&_}
 use Prim.Native.Nat.{ℕ, suc, _+_, _-_, _*_, _/_, _%_, _^_, _≤_, _<_}
-use native.Mathlib.Nat.{eq-or-lt-of-le, mul-div-cancel, mul-le-mul-right, pow-suc, suc-add}
+use native.Mathlib.Nat.{le-trans, le-of-lt, eq-or-lt-of-le, mod-le, mul-div-cancel, mul-le-mul-right, pow-suc, suc-add}
 use native.Mathlib.Omega.{arith}
 use borrow.Author.Tests.{le-ltb, ne-eqb}
 use lib.Dec.{T, leb}
 use lib.Pow.{pow-add, shl-lt, shl-shr}
-use lib.Ieee.{Float, nan, inf, fin, binary32, size, ofFields, ofBits, toBits, nanBits, isNan, ne, down}
-use lib.Ieee.Bits.{nanBits-above}
+use lib.Ieee.{Float, nan, inf, fin, Format, binary32, binary64, size, fits, hid, ones, top, ofFields, ofBits, toBits, nanBits, isNan, ne, down}
+use lib.Ieee.Bits.{nanBits-above, toBits-lt}
 use lib.Ieee.Compare.{nan-differs}
 use lib.Ieee.Exact.{HasValue, odd-sign}
-use lib.Ieee.Fits.{down-pos}
+use lib.Ieee.Fits.{and-i, down-pos, fits-widens}
 use Rattle.numbers.proofs.RoundedRoot.{size-is}
 
 -- ---- the pattern of s * 2 ^ k units, s having 24 digits or being 2 ^ 24
@@ -71,5 +72,14 @@ equal-to-itself nan h = subst T (sym nan-differs ∙ h) tt
 equal-to-itself (inf s) h = tt
 equal-to-itself (fin s m e) h = tt
 
-pub below-infinity : (n : ℕ) → n < 0x7F80_0000 → T (not (nanBits binary32 n))
-below-infinity n h = rw (nanBits-above binary32 n, le-ltb 0x7F80_0000 (n % 2147483648) (omega arith)) tt
+-- so a binary32 number that is equal to itself is a binary64 number
+pub widens : (x : Float) → T (fits binary32 x) → ne x x ≡ false → T (fits binary64 x && not (isNan x))
+widens x h e = and-i (fits binary64 x) (not (isNan x)) (fits-widens x h) (equal-to-itself x e)
+
+pub below-infinity : (f : Format) (n : ℕ) → n < ones f * hid f → T (not (nanBits f n))
+below-infinity f n h = rw (nanBits-above f n, le-ltb (ones f * hid f) (n % top f) (le-trans (mod-le n (top f)) (le-of-lt h))) tt
+
+-- ---- a binary64 pattern that is cut to 36 digits has room for one more
+
+pub one-more-fits : (x : Float) → T (fits binary64 x) → toBits binary64 x / 0x1000_0000 + 1 < 2 ^ 64
+one-more-fits x h = let l : toBits binary64 x < 2 ^ 64 = toBits-lt binary64 x h in omega arith

@@ -33,7 +33,7 @@ module _ (a w : ℕ) (pos : 0 < a) (small : a < 2 ^ 24) (heavy : 149 ≤ w) wher
   -- its size in units
   pub root-units : w ≤ 500 → HasValue (rootAt a w) false ((wholeRoot (radicand a w) + 1) / 2 * 2 ^ suc (half a w)) (2 ^ 149)
   root-units light =
-      let to = rounded-to (radicand a w) (radicand-from a w pos small heavy) (radicand-below a w pos small heavy) in
+      let to = rounded-to (radicand-below a w pos small heavy) in
       let h : suc (half a w) ≤ 242 = omega arith in
       units-val binary32 false ((wholeRoot (radicand a w) + 1) / 2) (suc (half a w)) (lt-of-le-of-lt (mul-le-mul to (pow-mono h)) (lit< tt))
 
@@ -41,7 +41,7 @@ module _ (a w : ℕ) (pos : 0 < a) (small : a < 2 ^ 24) (heavy : 149 ≤ w) wher
   pub pattern-is : w ≤ 402 → (half a w + 1) * 8388608 + (wholeRoot (radicand a w) + 1) / 2 ≡ toBits binary32 (roundedRoot binary32 (a * 2 ^ w) (4 ^ 149))
   pattern-is light =
       let from = rounded-from (radicand a w) (radicand-from a w pos small heavy) (radicand-below a w pos small heavy) in
-      let to = rounded-to (radicand a w) (radicand-from a w pos small heavy) (radicand-below a w pos small heavy) in
+      let to = rounded-to (radicand-below a w pos small heavy) in
       rw (add-one (half a w), rounded-here) (sym (bits-of-value (rootAt a w) ((wholeRoot (radicand a w) + 1) / 2) (suc (half a w)) (root-units (omega arith)) from to))
 
 -- a product is not 0 where its factors are not

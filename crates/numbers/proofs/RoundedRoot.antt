@@ -95,15 +95,15 @@ module _ (r h : ℕ) (long : 2 ^ 48 ≤ r) (short : r < 2 ^ 50) where
   root-size = rw (size-is (wholeRoot (r * 4 ^ h)) (24 + h) root-from root-below) (omega arith)
 
 -- rounded to 24 digits it has 24, or is 2 ^ 24
+pub rounded-to : {r : ℕ} → r < 2 ^ 50 → (wholeRoot r + 1) / 2 ≤ 2 ^ 24
+rounded-to {r} short = let h : wholeRoot r < 2 ^ 25 = square-lt (lt-of-le-of-lt (whole-root r .below) short) in omega arith
+
 module _ (r : ℕ) (long : 2 ^ 48 ≤ r) (short : r < 2 ^ 50) where
   pub root-long : 2 ^ 24 ≤ wholeRoot r
   root-long = subst (λ (n : ℕ). 2 ^ 24 ≤ wholeRoot n) (mul-one r) (root-from r 0 long short)
 
   pub rounded-from : 2 ^ 23 ≤ (wholeRoot r + 1) / 2
   rounded-from = omega (arith, root-long)
-
-  pub rounded-to : (wholeRoot r + 1) / 2 ≤ 2 ^ 24
-  rounded-to = let h : wholeRoot r < 2 ^ 25 = subst (λ (n : ℕ). wholeRoot n < 2 ^ 25) (mul-one r) (root-below r 0 long short) in omega arith
 
 -- half of a root is the root of a quarter
 half-root : (r q : ℕ) → WholeRoot r q → WholeRoot (r / 4) (q / 2)

@@ -1,11 +1,12 @@
 -- The whole part of a square root: `wholeRoot n` squared is at most n, and the next number squared is above it, and no other number is so. Nothing here is about
 -- floats. Assumes nothing.
-use mathlib.Core.Path.{_≡_, refl}
-use mathlib.Core.Bool.{Bool, true, false, cond, not}
-use Prim.Native.Nat.{ℕ, zero, suc, _+_, _*_, _/_, _^_, _≤_, _<_}
-use native.Mathlib.Nat.{le-antisymm, lt-of-not-le, not-le-of-lt, lt-of-lt-of-le, lt-of-le-of-lt, mul-le-mul, mul-assoc, mul-left-comm, pow-suc, add-zero, le-mul-of-pos-right}
+use mathlib.Core.Path.{_≡_, refl, subst}
+use mathlib.Core.Bool.{Bool, true, false, cond, not, _&&_, and-eq-true-iff}
+use Prim.Native.Nat.{ℕ, zero, suc, _+_, _-_, _*_, _/_, _^_, _≤_, _<_}
+use native.Mathlib.Nat.{le-antisymm, lt-of-not-le, not-le-of-lt, lt-of-lt-of-le, lt-of-le-of-lt, mul-le-mul, mul-assoc, mul-left-comm, pow-suc, add-zero, le-mul-of-pos-right, add-mul, mul-add}
 use native.Mathlib.Omega.{arith}
-use lib.Dec.{T, leb, leb→le, nleb→lt, lit<}
+use borrow.Author.Tests.{leb-true, ltb-true}
+use lib.Dec.{T, leb, ltb, leb→le, nleb→lt, lit<}
 use lib.Pow.{pow-pos}
 use lib.Ieee.{size}
 use lib.Ieee.Digits.{size-lt}
@@ -62,24 +63,57 @@ unfolding wholeRoot
 whole-root n =
     digits-are (size n) n (rw four-power (lt-of-lt-of-le (size-lt n) (le-mul-of-pos-right (2 ^ size n) (pow-pos (size n)))))
 
--- ---- the root as the last number whose square is not above n
+-- ---- the root between two numbers, for a search that halves what is between them
 
-pub product-fits : {a b : ℕ} → a < 2 ^ 32 → b < 2 ^ 32 → a * b < 2 ^ 64
-product-fits {a} {b} h g =
-    let l : a ≤ 0xFFFF_FFFF = omega arith in
-    let m : b ≤ 0xFFFF_FFFF = omega arith in
-    lt-of-le-of-lt (mul-le-mul l m) (lit< tt)
+pub record Between (n low high : ℕ) : Type 0 where
+  pub below : low * low ≤ n
+  pub above : n < high * high
+  pub apart : low < high
+  pub small : high ≤ 2 ^ 25
 
-pub not-zero : {n q : ℕ} → n < q * q → 0 < q
-not-zero {n} h = let z : 0 * 0 ≤ n = omega arith in square-lt (lt-of-le-of-lt z h)
+pub between-start : {n : ℕ} → n < 2 ^ 50 → Between n 0 (2 ^ 25)
+between-start h = record { below = omega arith; above = h; apart = omega arith; small = omega arith }
 
--- q is not above the root of an n below 2 ^ 50
-pub record NotAbove (n q : ℕ) : Type 0 where
-  pub below : q * q ≤ n
-  pub small : q < 2 ^ 25
+module _ {n low high : ℕ} (b : Between n low high) where
+  pub middle-fits : (low + high) / 2 * ((low + high) / 2) < 2 ^ 64
+  middle-fits =
+      let m : (low + high) / 2 ≤ 2 ^ 25 = omega (arith, b .apart, b .small) in
+      lt-of-le-of-lt (square-le m) (lit< tt)
 
-pub not-above : {n q : ℕ} → n < 2 ^ 50 → q * q ≤ n → NotAbove n q
-not-above h l = record { below = l; small = square-lt (lt-of-le-of-lt l h) }
+  pub upper-half : (low + high) / 2 * ((low + high) / 2) ≤ n → Between n ((low + high) / 2) high
+  upper-half h = record { below = h; above = b .above; apart = omega (arith, b .apart); small = b .small }
 
-pub last-is-root : {n q : ℕ} → NotAbove n q → n < (q + 1) * (q + 1) → q ≡ wholeRoot n
-last-is-root l h = whole-root-unique (record { below = l .below; above = h }) (whole-root _)
+  pub lower-half : n < (low + high) / 2 * ((low + high) / 2) → Between n low ((low + high) / 2)
+  lower-half h = record { below = b .below; above = h; apart = square-lt (lt-of-le-of-lt (b .below) h); small = omega (arith, b .apart, b .small) }
+
+  pub between-done : high - low ≤ 1 → low ≡ wholeRoot n
+  between-done h =
+      let next : high ≡ low + 1 = omega (arith, b .apart) in
+      whole-root-unique (record { below = b .below; above = subst (λ (k : ℕ). n < k * k) next (b .above) }) (whole-root n)
+
+-- ---- half of the root, rounded by the root's last digit, is known by the squares of the odd numbers next to its double
+
+-- the square of the odd number before 2 * q
+abbrev pub under : ℕ → ℕ
+under q = (2 * q - 1) * (2 * q - 1)
+
+pub under-small : {q : ℕ} → q ≤ 2 ^ 24 → under q < 2 ^ 50
+under-small {q} h =
+    let l : 2 * q - 1 ≤ 0x01FF_FFFF = omega arith in
+    lt-of-le-of-lt (square-le l) (lit< tt)
+
+square-after : (d : ℕ) → (d + 2) * (d + 2) ≡ d * d + 4 * d + 4
+square-after d = simp (add-mul, mul-add) (omega arith)
+
+rounded-between : {n q : ℕ} → 0 < q → under q ≤ n → n < under q + 8 * q → (wholeRoot n + 1) / 2 ≡ q
+rounded-between {n} {q} pos from to =
+    let w = whole-root n in
+    let low : 2 * q - 1 < wholeRoot n + 1 = square-lt (lt-of-le-of-lt from (w .above)) in
+    let high : wholeRoot n < 2 * q - 1 + 2 = square-lt (lt-of-le-of-lt (w .below) (rw square-after (omega arith))) in
+    omega arith
+
+-- the same, of the two comparisons
+pub squares-decide : (n q : ℕ) → 0 < q → (leb (under q) n && ltb n (under q + 8 * q)) ≡ true → (wholeRoot n + 1) / 2 ≡ q
+squares-decide n q pos both =
+    let t = and-eq-true-iff (leb (under q) n) (ltb n (under q + 8 * q)) .0 both in
+    rounded-between pos (leb-true _ _ (t .0)) (ltb-true _ _ (t .1))

@@ -1,6 +1,9 @@
-// The IEEE 754 square root of a binary32 number, worked out from its bit pattern with integers alone.
+// The IEEE 754 square root of a binary32 number. It begins with a guess, made by arithmetic in binary64, and of the guess nothing is
+// proved but that it is safe to make. Whole numbers decide: a guess is taken where the two squares next to it say that it is the root,
+// and elsewhere the root is found by halving. So a wrong guess costs time, and never the answer.
 ghost use mathlib.Core.Path.{_≡_};
-ghost use Prim.Native.Nat.{_*_, _^_, _≤_, _<_};
+ghost use mathlib.Core.Bool.{true};
+ghost use Prim.Native.Nat.{_+_, _*_, _/_, _^_, _≤_, _<_};
 ghost use lib.Ieee.{nan, binary32, ofBits, toBits};
 ghost use Rattle.numbers.specs.Root as Root;
 
@@ -29,7 +32,7 @@ pub fn root(x: f32) -> f32
     if INFINITY <= bits {
         return x;
     }
-    f32::from_bits(root_bits(bits))
+    f32::from_bits(root_bits(bits, x as f64))
 }
 
 // A NaN's pattern can't be made of bits either: it is what 0 / 0 gives.
@@ -39,76 +42,100 @@ fn not_a_number() -> f32
     0.0 / 0.0
 }
 
-// The pattern of the root of a number above 0 and below the infinity. A subnormal one has no leading digit, and its field counts
-// as a field of 1.
-fn root_bits(bits: u32) -> u32
+// The pattern of the root of a number above 0 and below the infinity. `wide` is the same number in binary64, for the guess. A subnormal
+// number has no leading digit, and its field counts as a field of 1; no guess is made at its root.
+fn root_bits(bits: u32, wide: f64) -> u32
     requires { ⌜ (0 < bits) × (bits < 0x7F80_0000) ⌝ }
     ensures { λ r. ⌜ (r ≡ toBits binary32 (Root.root (ofBits binary32 bits))) × (r < 0x7F80_0000) ⌝ }
 {
     if bits < FIELD {
-        return root_pattern(bits, 149);
+        return root_pattern(bits, 149, 0);
     }
-    root_pattern(FIELD + bits % FIELD, bits / FIELD + 148)
+    root_pattern(
+        FIELD + bits % FIELD,
+        bits / FIELD + 148,
+        near_pattern(bits, wide),
+    )
 }
 
-// The pattern of the root of digits * 2 ^ weight / 2 ^ 298. The radicand is made as long as 25 digits of the root take, 49 or 50
-// digits, by an even power of two less: what is left of the weight is 2 * half. The 25th digit rounds the root. It is never a tie,
-// since the radicand is even and an odd root's square is not.
-fn root_pattern(digits: u32, weight: u32) -> u32
+// The pattern of the root of digits * 2 ^ weight / 2 ^ 298; `near` is a guess at it. The radicand is made as long as 25 digits of the
+// root take, 49 or 50 digits, by an even power of two less: what is left of the weight is 2 * half. The 25th digit rounds the root. It
+// is never a tie, since the radicand is even and an odd root's square is not.
+fn root_pattern(digits: u32, weight: u32, near: u64) -> u32
     requires { ⌜ (0 < digits) × (digits < 2 ^ 24) × (149 ≤ weight) × (weight ≤ 402) ⌝ }
     ensures { λ r. ⌜ (r ≡ toBits binary32 (Root.roundedRoot binary32 (digits * 2 ^ weight) (4 ^ 149))) × (r < 0x7F80_0000) ⌝ }
 {
     let half = (weight - u32::leading_zeros(digits) - 17) / 2;
     let radicand = (digits as u64) << (weight - 2 * half);
-    let rounded = (whole_root(radicand) + 1) / 2;
-    (half + 1) * FIELD + (rounded as u32)
+    let least = (half + 1) * FIELD;
+    let rounded = rounded_root(radicand, std::num::wrapping_sub_u64(near, least as u64));
+    least + (rounded as u32)
 }
 
-// The whole part of the square root of n: the guess is stepped down and then up to it. The squares alone decide, so the guess may be
-// anything: a poor one costs steps, and never the answer.
+// The square root of n without its last digit, by which it is rounded: the guess where that is right, and else what halving finds.
+fn rounded_root(n: u64, near: u64) -> u64
+    requires { ⌜ n < 2 ^ 50 ⌝ }
+    ensures { λ r. ⌜ (r ≡ (Root.wholeRoot n + 1) / 2) × (r ≤ 2 ^ 24) ⌝ }
+{
+    if is_rounded(n, near) {
+        return near;
+    }
+    (whole_root(n) + 1) / 2
+}
+
+// Whether a guess is the square root of n without its last digit, rounded: the root lies from 2 * near - 1 on, and below 2 * near + 1,
+// whose square is 8 * near more. A guess of 0 or above 2 ^ 24 is refused: it is right for no n from 1 on and below 2 ^ 50.
+fn is_rounded(n: u64, near: u64) -> bool
+    ensures { λ r. ⌜ (r ≡ true → (Root.wholeRoot n + 1) / 2 ≡ near) ⌝ }
+{
+    if 0x0100_0000 < near {
+        return false;
+    }
+    if near == 0 {
+        return false;
+    }
+    let below = (2 * near - 1) * (2 * near - 1);
+    (below <= n) & (n < below + 8 * near)
+}
+
+// A guess at the pattern of the root of `wide`, whose binary32 pattern is `bits`. It is wrong at 2,014 of the 2 ^ 24 numbers from 1 up to
+// 4, and then one off (measured).
+//
+// A pattern grows nearly as its number's logarithm does, so the pattern of 1 / root(wide) is about 0x5FE6_EB50_C7B5_37A9 less half of
+// wide's own. That half is bits * 0x1000_0000, and half of the difference of the two formats' biases, 448 * 2 ^ 52, which the constant
+// below has taken off already. So y0 is within 3.5 % of 1 / root(wide), and a step of Newton's, y * (1.5 - wide / 2 * y * y), leaves
+// 3 / 2 of the error's square: 0.18 %, 5e-6, 4e-11.
+//
+// wide * y3 comes near the root in binary64; that it is no NaN is not proved, so it is asked. Its pattern has 29 digits more than a
+// binary32 pattern, of which 28 are cut off and the one before them rounds: (pattern / 2 ^ 28 + 1) / 2. Its exponent is 896 more by the
+// biases, which is 896 * 2 ^ 23 or 0x1_C000_0000 in the pattern.
+fn near_pattern(bits: u32, wide: f64) -> u64 {
+    let half = 0.5 * wide;
+    let y0 = f64::from_bits(0x43E6_EB50_C7B5_37A9 - (bits as u64) * 0x1000_0000);
+    let y1 = y0 * (1.5 - half * y0 * y0);
+    let y2 = y1 * (1.5 - half * y1 * y1);
+    let y3 = y2 * (1.5 - half * y2 * y2);
+    let guess = wide * y3;
+    if guess != guess {
+        return 0;
+    }
+    std::num::wrapping_sub_u64((f64::to_bits(guess) / 0x1000_0000 + 1) / 2, 0x1_C000_0000)
+}
+
+// The whole part of the square root of n, by halving: it lies from low on, and below high.
 fn whole_root(n: u64) -> u64
     requires { ⌜ n < 2 ^ 50 ⌝ }
     ensures { λ r. ⌜ (r ≡ Root.wholeRoot n) × (r < 2 ^ 25) ⌝ }
 {
-    let mut low = not_above(n, guess(n));
-    while (low + 1) * (low + 1) <= n {
-        low += 1;
+    let mut low: u64 = 0;
+    let mut high: u64 = 0x0200_0000;
+    while 1 < high - low {
+        let middle = (low + high) / 2;
+        if middle * middle <= n {
+            low = middle;
+        } else {
+            high = middle;
+        }
     }
     low
-}
-
-// The first number from start down whose square is not above n.
-fn not_above(n: u64, start: u32) -> u64
-    ensures { λ r. ⌜ r * r ≤ n ⌝ }
-{
-    let mut low = start as u64;
-    while n < low * low {
-        low -= 1;
-    }
-    low
-}
-
-// A guess at the whole part of the square root of n. Where n has 49 or 50 digits it is right but for about one time in 40, and then
-// one off. With m for n / 2 ^ 50, r comes near 1 / root(m) and s near root(m), both in units of 2 ^ -31. r begins as a line of m, and
-// a step multiplies both by (3 - r * s) / 2, which leaves 3 / 2 of the square of their error. After the first step all errors have
-// one sign, so there a little more than 3 is taken. Differences are modulo 2 ^ 32.
-fn guess(n: u64) -> u32
-    requires { ⌜ n < 2 ^ 50 ⌝ }
-{
-    let m = (n / 0x0004_0000) as u32;
-    let r0 = std::num::wrapping_sub_u32(0x0D00_0000, upper_half(m, 0x9880_0000));
-    let s0 = upper_half(m, r0);
-    let by0 = std::num::wrapping_sub_u32(0xC090_0000, upper_half(r0, s0));
-    let r1 = upper_half(r0, by0) << 1;
-    let s1 = upper_half(s0, by0) << 1;
-    let by1 = std::num::wrapping_sub_u32(0xC000_0000, upper_half(r1, s1));
-    let r2 = upper_half(r1, by1) << 1;
-    let s2 = upper_half(s1, by1) << 1;
-    let by2 = std::num::wrapping_sub_u32(0xC000_0000, upper_half(r2, s2));
-    upper_half(s2, by2) / 32
-}
-
-// The upper 32 digits of the product of two numbers of 32.
-fn upper_half(a: u32, b: u32) -> u32 {
-    (((a as u64) * (b as u64)) / 0x1_0000_0000) as u32
 }

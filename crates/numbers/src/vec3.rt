@@ -56,10 +56,3 @@ impl Vec3 {
         }
     }
 }
-
-// The determinant of the matrix with the columns p, q and r.
-pub fn determinant(p: Vec3, q: Vec3, r: Vec3) -> f32
-    ensures { λ d. ⌜ d ≡ Points3.determinant p q r ⌝ }
-{
-    p.x * (q.y * r.z - r.y * q.z) - q.x * (p.y * r.z - r.y * p.z) + r.x * (p.y * q.z - q.y * p.z)
-}

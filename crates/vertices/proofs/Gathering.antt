@@ -11,7 +11,7 @@ use native.Mathlib.Omega.{arith}
 use lib.Dec.{eqb, ltb}
 use lib.Ieee.{Float}
 use lib.ListN.{length, getD, take, drop, set, length-set, length-take, length-drop}
-use lib.Seq.{sets, take-suc, getD-drop, getD-set-same, getD-set-other}
+use lib.Seq.{sets, getD-set-same, getD-set-other}
 use borrow.Author.Tests.{eqb-true, eqb-false, ltb-true, ltb-false, lt-ltb, le-ltb}
 use Rattle.numbers.specs.Binary32 as Binary32
 use Rattle.numbers.specs.Points4 as Points4
@@ -23,7 +23,7 @@ use Rattle.geom.specs.Vertices.{positionAt}
 use Rattle.geom.specs.Smoothing.{Gathered, nothing, ignored, update, toCorners, gather}
 use Rattle.vertices.specs.Cells.{positionWords, pointRow, points, elementsOf, gatheredRow, Lent, MOST, Corners, Elements}
 use Rattle.geom.proofs.Rows.{getD-firstOf}
-use Rattle.vertices.proofs.Written.{getD-sets-past}
+use Rattle.vertices.proofs.Written.{getD-sets-past, part-on}
 
 pub two-stores : {A : Type 0} (l : List A) (a : ℕ) (x y : A) → set (set l a x) (a + 1) y ≡ sets l a (x ∷ y ∷ [])
 two-stores l a x y = rw (add-one a) refl
@@ -202,10 +202,7 @@ pub length-part : (words : List ℕ) (start k : ℕ) → start + k ≤ length wo
 length-part words start k h = simp (length-take, length-drop) (omega arith)
 
 pub part-more : (words : List ℕ) (start k : ℕ) → start + k < length words → take (k + 1) (drop start words) ≡ take k (drop start words) ++ getD words (start + k) 0 ∷ []
-part-more words start k h =
-    let l : k < length (drop start words) = simp length-drop (omega arith) in
-    ap (λ (n : ℕ). take n (drop start words)) (add-one k) ∙ take-suc (drop start words) k 0 l
-    ∙ ap (λ (x : ℕ). take k (drop start words) ++ x ∷ []) (getD-drop start words k 0)
+part-more words start k h = part-on words start k 0 h
 
 pub record Spreading (sums₀ : List Float) (tallies₀ words : List ℕ) (start corners : ℕ) (p : Vec4) (rank : ℕ) (sums : List Float) (tallies : List ℕ) (k : ℕ) : Type 0 where
   pub within : k ≤ corners

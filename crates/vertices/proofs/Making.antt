@@ -5,19 +5,20 @@ use mathlib.Core.List.{List, [], _∷_, map, flatMap}
 use Prim.Native.Nat.{ℕ, _+_, _*_, _≤_, _<_}
 use native.Mathlib.Omega.{arith}
 use lib.Ieee.{Float}
-use lib.ListN.{length, getD, length-append}
+use lib.ListN.{length, getD, take, length-append}
 use lib.Seq.{sets, length-sets}
+use Rattle.numbers.specs.Binary32 as Binary32
 use Rattle.numbers.specs.Points4 as Points4
 use Rattle.geom.specs.declared.vertex.Vertex.{Vertex}
-use Rattle.geom.specs.Memory.{firstOf, vertexRow}
+use Rattle.geom.specs.Memory.{firstOf, vertexRow, over}
 use Rattle.geom.specs.Vertices.{midpointVertex, vertexAt, pairVertex}
 use Rattle.geom.specs.Smoothing.{withMidpoints}
 use Rattle.vertices.specs.Cells.{positionWords, markWords, positionsWords, marksWords, Row, Stand, Ends, pairRow, pairsFrom, Laid, Over}
 use Rattle.geom.proofs.Rows.{length-firstOf, getD-firstOf, map-firstOf}
-use Rattle.vertices.proofs.Written.{sets-over, laid-on, over-behind, length-flat}
+use Rattle.vertices.proofs.Written.{sets-over, flat-read, laid-on, laid-over, over-behind, length-flat}
 
 -- a row of those that stand
-pub row-at : (positions : List Float) (marks : List ℕ) (n i : ℕ) → Stand positions marks n → i < n → Row positions marks i
+row-at : (positions : List Float) (marks : List ℕ) (n i : ℕ) → Stand positions marks n → i < n → Row positions marks i
 row-at positions marks n i s h = record { position = omega arith; mark = omega arith }
 
 pub laid-fewer : (positions : List Float) (marks : List ℕ) (n m : ℕ) → Stand positions marks (n + m) → Stand positions marks n
@@ -57,6 +58,36 @@ module _ (held : List Float) (noted : List ℕ) (c : ℕ) where
             m .words
             ∙ ap₂ (λ (k : ℕ) (u : Vertex). sets marks (3 * k) (markWords u)) e q
             ∙ laid-on markWords 3 (λ v. refl) noted marks item c i (l .words);
+      }
+
+-- the words of vertices are those that they were read from
+module _ (positions : List Float) (marks : List ℕ) (n : ℕ) (s : Stand positions marks n) where
+  position-words : positionsWords (firstOf (vertexRow positions marks) n) ≡ take (4 * n) positions
+  unfolding vertexRow firstOf
+  position-words =
+      flat-read (λ (v : Vertex). positionWords (v .position)) 4 (λ v. refl) (vertexRow positions marks) positions Binary32.zero
+      (λ i. let z : 4 * i + 0 ≡ 4 * i = omega arith in rw z) n (s .points)
+
+  mark-words : marksWords (firstOf (vertexRow positions marks) n) ≡ take (3 * n) marks
+  unfolding vertexRow firstOf
+  mark-words =
+      flat-read markWords 3 (λ v. refl) (vertexRow positions marks) marks 0
+      (λ i. let z : 3 * i + 0 ≡ 3 * i = omega arith in rw z) n (s .words)
+
+  -- vertices copied word by word
+  pub laid-copied : (held : List Float) (noted : List ℕ) (positions′ : List Float) (marks′ : List ℕ) → Stand held noted n
+      → positions′ ≡ over held (take (4 * n) positions) → marks′ ≡ over noted (take (3 * n) marks)
+      → Laid held noted 0 (firstOf (vertexRow positions marks) n) positions′ marks′
+  laid-copied held noted positions′ marks′ o p q =
+      record {
+        points =
+            p
+            ∙ ap (over held) (sym position-words)
+            ∙ sym (laid-over (λ (v : Vertex). positionWords (v .position)) 4 (λ v. refl) held (vertexRow positions marks) n (o .points));
+        words =
+            q
+            ∙ ap (over noted) (sym mark-words)
+            ∙ sym (laid-over markWords 3 (λ v. refl) noted (vertexRow positions marks) n (o .words));
       }
 
 -- one vertex is a list of one

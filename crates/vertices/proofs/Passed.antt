@@ -1,11 +1,12 @@
 -- The vertices that a pass leaves: what was laid out is read back, and what smoothing makes of it stands in its place.
 -- Assumes nothing.
 use mathlib.Core.Path.{_≡_, refl, sym, _∙_, ap, ap₂}
-use mathlib.Core.Bool.{Bool, true, false, cond}
+use mathlib.Core.Bool.{Bool, true, false, cond, _&&_}
 use mathlib.Core.List.{List, [], _∷_, _++_, flatMap, append-assoc}
 use Prim.Native.Nat.{ℕ, zero, suc, _+_, _*_, _<_}
 use native.Mathlib.Nat.{mul-suc}
 use native.Mathlib.Omega.{arith}
+use borrow.Author.Tests.{eqb-true}
 use lib.Dec.{eqb}
 use lib.Ieee.{Float}
 use lib.ListN.{length, getD, drop, List·getD-append}
@@ -13,12 +14,13 @@ use lib.Seq.{drop-at, getD-append-add, ext-getD}
 use Rattle.numbers.specs.Binary32 as Binary32
 use Rattle.numbers.specs.Points4 as Points4
 use Rattle.geom.specs.declared.vertex.Vertex.{Vertex}
-use Rattle.geom.specs.Book.{Kind}
-use Rattle.geom.specs.Elements.{Lists}
+use Rattle.geom.specs.Book.{Kind, cubes, simplices}
+use Rattle.geom.specs.Elements.{Curve, Lists}
 use Rattle.geom.specs.Memory.{firstOf, vertexRow, over}
 use Rattle.geom.specs.Vertices.{vertexAt}
-use Rattle.geom.specs.Smoothing.{Gathered, gathered, moved, settled, settledFrom, smoothed}
-use Rattle.vertices.specs.Cells.{positionWords, markWords, positionsWords, marksWords, Over}
+use Rattle.geom.specs.Smoothing.{Gathered, nothing, gather, gathered, moved, settled, settledFrom, smoothed}
+use Rattle.vertices.specs.Cells.{positionWords, markWords, positionsWords, marksWords, listsOf, Over}
+use Rattle.geom.proofs.Lists.{and-true-left, and-true-right}
 use Rattle.geom.proofs.Rows.{length-firstOf, getD-firstOf}
 use Rattle.vertices.proofs.Written.{length-flat}
 
@@ -122,3 +124,42 @@ over-smoothed kind time l held noted vertices out notes n positions e o p =
           ∙ over-over held (positionsWords vertices) (positionsWords (smoothed kind time l vertices)) k;
       words = o .words ∙ ap (over noted) (sym (from-marks kind time l vertices 0 vertices));
     }
+
+-- ---- smoothing over no elements
+
+abbrev noElements : List Curve → Lists
+noElements curves = record { lines = []; areas = []; volumes = []; curves = curves }
+
+-- a count of 0 changes nothing
+settled-none : (time : Bool) (v : Vertex) → settled time v nothing ≡ v
+unfolding settled nothing
+settled-none time v = refl
+
+module _ (curves : List Curve) (vertices : List Vertex) where
+  gathered-none : (kind : Kind) (n : ℕ) → gathered kind (noElements curves) vertices n ≡ nothing
+  unfolding gathered gather
+  gathered-none cubes n = refl
+  gathered-none simplices n = refl
+
+  from-none : (kind : Kind) (time : Bool) (n : ℕ) (xs : List Vertex) → settledFrom kind time (noElements curves) vertices n xs ≡ xs
+  unfolding settledFrom
+  from-none kind time n [] = refl
+  from-none kind time n (x ∷ xs) = ap₂ _∷_ (ap (settled time x) (gathered-none kind n) ∙ settled-none time x) (from-none kind time (suc n) xs)
+
+  -- every vertex stays where it is
+  smoothed-none : (kind : Kind) (time : Bool) → smoothed kind time (noElements curves) vertices ≡ vertices
+  unfolding smoothed
+  smoothed-none kind time = from-none kind time 0 vertices
+
+-- the vertices laid out, where the new lists have no line, no area and no volume
+pub over-unsmoothed : (kind : Kind) (time : Bool) (lines : List ℕ) (line angles : ℕ) (areas : List ℕ) (area corners : ℕ) (volumes : List ℕ) (volume : ℕ) (curves : List Curve)
+    (held : List Float) (noted : List ℕ) (vertices : List Vertex) (positions : List Float) (marks : List ℕ)
+    → (eqb line 0 && (eqb area 0 && eqb volume 0)) ≡ true → Over held noted vertices positions marks
+    → Over held noted (smoothed kind time (listsOf lines line angles areas area corners volumes volume curves) vertices) positions marks
+unfolding firstOf
+over-unsmoothed kind time lines line angles areas area corners volumes volume curves held noted vertices positions marks e o =
+    let rest = and-true-right (eqb line 0) (eqb area 0 && eqb volume 0) e in
+    let a : line ≡ 0 = eqb-true line 0 (and-true-left (eqb line 0) (eqb area 0 && eqb volume 0) e) in
+    let b : area ≡ 0 = eqb-true area 0 (and-true-left (eqb area 0) (eqb volume 0) rest) in
+    let c : volume ≡ 0 = eqb-true volume 0 (and-true-right (eqb area 0) (eqb volume 0) rest) in
+    rw (a, b, c, smoothed-none curves vertices kind time) o

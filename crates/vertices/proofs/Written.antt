@@ -1,13 +1,13 @@
--- From cells to definitions, over the width of a row: rows written one after the other, read back, and written over what a slice held.
+-- From cells to definitions, over the width of a row: words copied, rows written one after the other, read back, and written over what a slice held.
 -- Assumes nothing.
 use mathlib.Core.Path.{_≡_, refl, sym, _∙_, ap, ap₂}
 use mathlib.Core.List.{List, [], _∷_, _++_, flatMap, append-nil, append-assoc}
-use Prim.Native.Nat.{ℕ, suc, _+_, _*_, _≤_}
+use Prim.Native.Nat.{ℕ, zero, suc, _+_, _*_, _≤_, _<_}
 use native.Mathlib.Nat.{mul-add, mul-suc, zero-add}
 use native.Mathlib.Numerals.{add-one, towards-suc}
 use native.Mathlib.Omega.{arith}
-use lib.ListN.{length, getD, drop, set, length-append}
-use lib.Seq.{sets, sets-eq, getD-set-other}
+use lib.ListN.{length, getD, take, drop, set, length-append, length-drop}
+use lib.Seq.{sets, sets-eq, getD-set-other, getD-drop, length-take-le, take-suc, take-add, paste, paste-zero, paste-suc, length-paste}
 use Rattle.geom.specs.Memory.{firstOf, over}
 use Rattle.geom.proofs.Rows.{length-firstOf}
 
@@ -18,7 +18,59 @@ four-stores l a x y z w = simp towards-suc
 pub three-stores : {A : Type 0} (l : List A) (a : ℕ) (x y z : A) → set (set (set l a x) (a + 1) y) (a + 2) z ≡ sets l a (x ∷ y ∷ z ∷ [])
 three-stores l a x y z = simp towards-suc
 
+-- ---- words copied
+
+-- of the first n words of one list, i stand over another
+pub record Copying {A : Type 0} (from to : List A) (n i : ℕ) (words : List A) : Type 0 where
+  pub within : i ≤ n
+  pub held : n ≤ length from
+  pub room : n ≤ length to
+  pub list : words ≡ paste to 0 from i
+
+module _ {A : Type 0} {from to : List A} {n : ℕ} where
+  pub copying-start : n ≤ length from → n ≤ length to → Copying from to n 0 to
+  copying-start h k = record { within = omega arith; held = h; room = k; list = paste-zero to 0 from }
+
+  module _ {i : ℕ} {words : List A} (c : Copying from to n i words) where
+    pub copying-length : length words ≡ length to
+    copying-length = ap length (c .list) ∙ length-paste to 0 from i (omega arith) (omega arith)
+
+    pub copying-on : (d : A) → i < n → Copying from to n (i + 1) (set words i (getD from i d))
+    copying-on d h =
+        record {
+          within = omega arith;
+          held = c .held;
+          room = c .room;
+          list =
+              ap₂ (λ (w : List A) (k : ℕ). set w k (getD from i d)) (c .list) (sym (zero-add i))
+              ∙ paste-suc to 0 from i d (omega arith) (omega arith)
+              ∙ ap (paste to 0 from) (sym (add-one i));
+        }
+
+    pub copying-done : n ≤ i → words ≡ over to (take n from)
+    unfolding over
+    copying-done h =
+        let e : i ≡ n = omega arith in
+        c .list ∙ ap (paste to 0 from) e ∙ ap (λ (k : ℕ). take n from ++ drop k to) (zero-add n ∙ sym (length-take-le n from (c .held)))
+
 -- ---- rows read by place
+
+-- a part of the words, and the word behind it
+pub part-on : {A : Type 0} (words : List A) (start k : ℕ) (d : A) → start + k < length words
+    → take (k + 1) (drop start words) ≡ take k (drop start words) ++ getD words (start + k) d ∷ []
+part-on {A} words start k d h =
+    let l : k < length (drop start words) = simp length-drop (omega arith) in
+    ap (λ (n : ℕ). take n (drop start words)) (add-one k) ∙ take-suc (drop start words) k d l
+    ∙ ap (λ (x : A). take k (drop start words) ++ x ∷ []) (getD-drop start words k d)
+
+-- a part, word by word
+part-read : {A : Type 0} (words : List A) (start k : ℕ) (d : A) → start + k ≤ length words
+    → firstOf (λ (j : ℕ). getD words (start + j) d) k ≡ take k (drop start words)
+unfolding firstOf
+part-read words start zero d h = refl
+part-read {A} words start (suc k) d h =
+    ap (λ (l : List A). l ++ getD words (start + k) d ∷ []) (part-read words start k d (omega arith))
+    ∙ sym (rw add-one at (part-on words start k d (omega arith)))
 
 -- ---- rows written one after the other
 
@@ -54,6 +106,17 @@ module _ {A B : Type 0} (f : A → List B) where
     unfolding firstOf flatMap
     flat-more item i =
         rw add-one (flat-append (firstOf item i) (item i ∷ []) ∙ ap (λ (r : List B). flatMap f (firstOf item i) ++ r) (append-nil (f (item i))))
+
+    -- rows that hold what was read at their places are the words that they were read from
+    pub flat-read : (item : ℕ → A) (words : List B) (d : B) → ((i : ℕ) → f (item i) ≡ firstOf (λ (k : ℕ). getD words (width * i + k) d) width)
+        → (n : ℕ) → width * n ≤ length words → flatMap f (firstOf item n) ≡ take (width * n) words
+    unfolding firstOf flatMap
+    flat-read item words d at zero h = let z : width * 0 ≡ 0 = omega arith in rw z refl
+    flat-read item words d at (suc n) h =
+        let e : width * suc n ≡ width * n + width = mul-suc width n in
+        rw add-one at (flat-more item n)
+        ∙ ap₂ _++_ (flat-read item words d at n (omega arith)) (at n ∙ part-read words (width * n) width d (omega arith))
+        ∙ sym (ap (λ (k : ℕ). take k words) e ∙ take-add (width * n) width words)
 
     -- a row more, at its place behind those from row c on
     pub laid-on : (l now : List B) (item : ℕ → A) (c i : ℕ) → now ≡ sets l (width * c) (flatMap f (firstOf item i))

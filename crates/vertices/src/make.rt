@@ -1,7 +1,9 @@
 // Document 01, section 2: the old vertices stay, and one is made for each new pair of the book.
 ghost use mathlib.Core.Path.{_≡_};
 ghost use mathlib.Core.List.{[], _∷_, map};
-ghost use Prim.Native.Nat.{_+_, _*_, _<_};
+ghost use Prim.Native.Nat.{_+_, _≤_};
+ghost use lib.ListN.{length, take};
+ghost use Rattle.geom.specs.Memory.{over};
 ghost use Rattle.geom.specs.Vertices.{pairVertex};
 ghost use Rattle.geom.specs.Smoothing.{withMidpoints};
 ghost use Rattle.vertices.specs.Cells.{verticesOf, Row, Stand, Ends, Pairs, pairRow, pairsFrom, Laid, Over};
@@ -22,7 +24,33 @@ pub fn put_vertex(out: &mut [f32], notes: &mut [u32], i: usize, v: Vertex)
     put_marks(notes, i, v);
 }
 
-// The old vertices are copied to the other bench.
+// The first floats are copied, as many as the count says.
+fn copy_floats(from: &[f32], to: &mut [f32], count: usize)
+    requires { ⌜ count ≤ length (now from) ⌝ }
+    requires { ⌜ count ≤ length (now to) ⌝ }
+    ensures { λ r. ⌜ now (to .exit) ≡ over (now (to .entry)) (take count (now (from .entry))) ⌝ }
+{
+    let mut i: usize = 0;
+    while i < count {
+        to[i] = from[i];
+        i += 1;
+    }
+}
+
+// The same for words.
+fn copy_words(from: &[u32], to: &mut [u32], count: usize)
+    requires { ⌜ count ≤ length (now from) ⌝ }
+    requires { ⌜ count ≤ length (now to) ⌝ }
+    ensures { λ r. ⌜ now (to .exit) ≡ over (now (to .entry)) (take count (now (from .entry))) ⌝ }
+{
+    let mut i: usize = 0;
+    while i < count {
+        to[i] = from[i];
+        i += 1;
+    }
+}
+
+// The old vertices are copied to the other bench: all words of their positions, then all words of their marks.
 pub fn copy_vertices(
     positions: &[f32],
     marks: &[u32],
@@ -34,12 +62,8 @@ pub fn copy_vertices(
     requires { ⌜ Stand (now out) (now notes) count ⌝ }
     ensures { λ r. ⌜ Laid (now (out .entry)) (now (notes .entry)) 0 (verticesOf (now (positions .entry)) (now (marks .entry)) count) (now (out .exit)) (now (notes .exit)) ⌝ }
 {
-    let mut i: usize = 0;
-    while i < count {
-        let v = vertex_at(positions, marks, i);
-        put_vertex(out, notes, i, v);
-        i += 1;
-    }
+    copy_floats(positions, out, 4 * count);
+    copy_words(marks, notes, 3 * count);
 }
 
 // The vertex that entry e of the book makes.

@@ -1,7 +1,9 @@
 // Document 01, sections 2 to 4: the vertex rules of a pass as a whole, for both kinds.
 ghost use mathlib.Core.Path.{_≡_};
+ghost use mathlib.Core.Bool.{_&&_};
 ghost use mathlib.Core.List.{List};
 ghost use Prim.Native.Nat.{_+_};
+ghost use lib.Dec.{eqb};
 ghost use Rattle.geom.specs.Elements.{Curve};
 ghost use Rattle.geom.specs.Kinds.{kindOf};
 ghost use Rattle.geom.specs.Memory.{areaCorners, volumeCorners, over};
@@ -65,6 +67,19 @@ fn smooth(
     }
 }
 
+// Whether the new lists have nothing to smooth over: no line, no area and no volume.
+fn nothing_to_smooth(line: usize, area: usize, volume: usize) -> bool
+    ensures { λ r. ⌜ r ≡ (eqb line 0 && (eqb area 0 && eqb volume 0)) ⌝ }
+{
+    if line != 0 {
+        return false;
+    }
+    if area != 0 {
+        return false;
+    }
+    volume == 0
+}
+
 // The vertex rules of a pass, from one bench to the other: the old vertices, then one for each new pair of the book, all smoothed over the
 // new lists, which stand on the other bench. The bench that is read stays as it was.
 pub fn pass_vertices(
@@ -92,6 +107,10 @@ pub fn pass_vertices(
     ensures { λ r. ⌜ ((curves : List Curve) → Over (now (out .entry)) (now (notes .entry)) (smoothed (kindOf kind) time (listsOf (now (lines .entry)) line (areaCorners (kindOf kind)) (now (areas .entry)) area (volumeCorners (kindOf kind)) (now (volumes .entry)) volume curves) (withMidpoints (verticesOf (now (old .entry)) (now (marks .entry)) count) (pairsFrom (now (book .entry)) start new))) (now (out .exit)) (now (notes .exit))) ⌝ }
 {
     lay_out(old, marks, out, notes, book, count, start, new);
+    // A count of 0 changes nothing: over no elements every vertex stays where it is.
+    if nothing_to_smooth(line, area, volume) {
+        return;
+    }
     smooth(
         kind,
         out,

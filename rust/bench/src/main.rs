@@ -1,11 +1,14 @@
 //! How long the geometries of the crate `aljumeste` take, and what memory, beside those of the original Rust in oracle/reference: a geometry
 //! goes in and a geometry comes out, so that lending and copying are counted in.
 //!
-//! `cargo run --release` prints times and memory, a row a mesh, the ratio first; `cargo run --release -- instructions` prints instructions
-//! counted by callgrind. A word after it takes the works alone that begin with it. `one WORK SIZE SIDE CALLS` does one work, for these.
+//! `cargo run --release` prints a row a mesh: the ratio of the times first, beside it that of the instructions, which callgrind counts and
+//! which don't vary from run to run; then times, instructions and memory. A word after it takes the works alone that begin with it. `one
+//! WORK SIZE SIDE CALLS` does one work, for callgrind and for the memory.
 #[allow(dead_code)]
 #[path = "../../../oracle/src/block.rs"]
 mod block;
+#[path = "../../../oracle/src/geometry.rs"]
+mod geometry;
 mod work;
 
 use std::{
@@ -25,39 +28,41 @@ const COUNTED: usize = 200_000;
 fn main() {
     let words: Vec<String> = env::args().skip(1).collect();
     match words.iter().map(String::as_str).collect::<Vec<_>>()[..] {
-        [] => times(""),
-        ["instructions"] => instructions(""),
-        ["instructions", works] => instructions(works),
-        [works] => times(works),
+        [] => table(""),
+        [works] => table(works),
         ["one", work, size, side, calls] => one(work, size, side, calls),
-        _ => eprintln!(
-            "usage: cargo run --release [-- [instructions] [WORKS] | one WORK SIZE SIDE CALLS]"
-        ),
+        _ => eprintln!("usage: cargo run --release [-- WORKS | one WORK SIZE SIDE CALLS]"),
     }
 }
 
-fn times(works: &str) {
-    println!("| ours / original | work | size | entries | ours | original | ours, an entry | original, an entry | ours, memory | original, memory |");
-    println!("|---|---|---|---|---|---|---|---|---|---|");
+fn table(works: &str) {
+    println!("| time, ours / original | instructions, ours / original | work | size | entries | ours, an entry | original, an entry | instructions, an entry | original's | ours | original | memory | original's |");
+    println!("|{}", "---|".repeat(13));
     for (name, sizes) in beginning_with(works) {
         for size in sizes {
-            let work = Work::new(name, *size);
-            let (ours, theirs) = best(&work);
-            let each = |took: Duration| took.as_secs_f64() * 1e9 / work.entries as f64;
-            let memory = Side::BOTH.map(|side| child(&mut own(), name, *size, side, 1).0);
-            println!(
-                "| {:.2} | {name} | {size} | {} | {:.1} µs | {:.1} µs | {:.1} ns | {:.1} ns | {} KB | {} KB |",
-                ours.as_secs_f64() / theirs.as_secs_f64(),
-                work.entries,
-                ours.as_secs_f64() * 1e6,
-                theirs.as_secs_f64() * 1e6,
-                each(ours),
-                each(theirs),
-                memory[0],
-                memory[1],
-            );
+            row(name, *size);
         }
     }
+}
+
+fn row(name: &str, size: u32) {
+    let work = Work::new(name, size);
+    let (ours, theirs) = best(&work);
+    let each = |took: Duration| took.as_secs_f64() * 1e9 / work.entries as f64;
+    let us = |took: Duration| took.as_secs_f64() * 1e6;
+    let [ratio, counted, original_counted] = instructions(name, size, work.entries);
+    let memory = Side::BOTH.map(|side| child(&mut own(), name, size, side, 1).0);
+    println!(
+        "| {:.2} | {ratio} | {name} | {size} | {} | {:.1} ns | {:.1} ns | {counted} | {original_counted} | {:.1} µs | {:.1} µs | {} KB | {} KB |",
+        us(ours) / us(theirs),
+        work.entries,
+        each(ours),
+        each(theirs),
+        us(ours),
+        us(theirs),
+        memory[0],
+        memory[1],
+    );
 }
 
 fn beginning_with(works: &str) -> impl Iterator<Item = (&'static str, &'static [u32])> + '_ {
@@ -76,29 +81,17 @@ fn best(work: &Work) -> (Duration, Duration) {
     (ours, theirs)
 }
 
-fn instructions(works: &str) {
-    println!("| ours / original | work | size | entries | ours | original | ours, an entry | original, an entry |");
-    println!("|---|---|---|---|---|---|---|---|");
-    for (name, sizes) in beginning_with(works) {
-        for size in sizes {
-            let entries = Work::new(name, *size).entries;
-            if entries > COUNTED {
-                continue;
-            }
-            // What is done before the call is counted by itself and taken off.
-            let [ours, theirs] = Side::BOTH.map(|side| {
-                let count = |calls| child(&mut under_callgrind(), name, *size, side, calls).1;
-                count(1) - count(0)
-            });
-            let each = |count: u64| count as f64 / entries as f64;
-            println!(
-                "| {:.2} | {name} | {size} | {entries} | {ours} | {theirs} | {:.0} | {:.0} |",
-                ours as f64 / theirs as f64,
-                each(ours),
-                each(theirs),
-            );
-        }
+/// The ratio of the instructions, and those of each side for an entry. What is done before the call is counted by itself and taken off.
+fn instructions(name: &str, size: u32, entries: usize) -> [String; 3] {
+    if entries > COUNTED {
+        return ["", "", ""].map(String::from);
     }
+    let [ours, theirs] = Side::BOTH.map(|side| {
+        let count = |calls| child(&mut under_callgrind(), name, size, side, calls).1;
+        (count(1) - count(0)) as f64
+    });
+    let each = |count: f64| format!("{:.0}", count / entries as f64);
+    [format!("{:.2}", ours / theirs), each(ours), each(theirs)]
 }
 
 fn own() -> Command {

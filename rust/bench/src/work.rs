@@ -1,15 +1,13 @@
 //! What is measured: each work on both sides, from the same mesh.
-use crate::block::block;
-use aljumeste::{
-    geom::{ElementData, Geometry, Vert},
-    idx::Idx,
-    CurveData, Parity, VertData,
+use crate::{
+    block::{block, sheet},
+    geometry::geometry,
 };
+use aljumeste::geom::{ElementData, Geometry};
 use reference::{
     file,
     geom::{CubeData, SimplexData},
-    memory::triangulated,
-    mesh::{Element, Kind, Mesh, Sizes, Vertex, LIMIT},
+    mesh::{Kind, Mesh, Sizes, LIMIT},
 };
 use std::{
     hint::black_box,
@@ -66,7 +64,7 @@ impl Work {
             "refine simplices" => refine_simplices(block(Kind::Simplices, size)),
             "refine cubes" => refine_cubes(block(Kind::Cubes, size)),
             "triangulate" => triangulate(block(Kind::Cubes, size)),
-            "normals 3d" => normals_3d(triangulated(&sheet(size))),
+            "normals 3d" => normals_3d(sheet(size)),
             "normals 4d" => normals_4d(block(Kind::Simplices, size)),
             "read cubes" => read(block(Kind::Cubes, size)),
             "read simplices" => read(block(Kind::Simplices, size)),
@@ -190,75 +188,8 @@ fn read(mesh: Mesh) -> Work {
     }
 }
 
-/// n squares along each side, the middle raised.
-fn sheet(n: u32) -> Mesh {
-    let at = |x: u32, y: u32| x + (n + 1) * y;
-    let side = 1024. / n as f32;
-    let vertex = |x: u32, y: u32| {
-        let [x, y] = [x, y].map(|i| i as f32 * side);
-        let height = (x * (1024. - x) + y * (1024. - y)) / 1024.;
-        Vertex {
-            bits: [x, y, height, 0.].map(f32::to_bits),
-            flags: 0,
-            tag: 0,
-            k: 0,
-        }
-    };
-    let square = |x: u32, y: u32| Element {
-        corners: vec![at(x, y), at(x + 1, y), at(x, y + 1), at(x + 1, y + 1)],
-        parity: 0,
-    };
-    Mesh {
-        verts: (0..=n)
-            .flat_map(|y| (0..=n).map(move |x| vertex(x, y)))
-            .collect(),
-        areas: (0..n)
-            .flat_map(|y| (0..n).map(move |x| square(x, y)))
-            .collect(),
-        ..Mesh::empty(Kind::Cubes)
-    }
-}
-
 fn entries<E: ElementData>(geom: &Geometry<E>) -> usize {
     let elements = geom.lines.len() + geom.areas.len() + geom.volumes.len();
     let strands: usize = geom.curves.values().map(|curve| curve.verts.len()).sum();
     geom.verts.len() + geom.points.len() + elements + strands
-}
-
-/// The crate's geometry of a mesh.
-fn geometry<const A: usize, const V: usize, E>(mesh: &Mesh) -> Geometry<E>
-where
-    E: ElementData<Point = Vert, Line = [Vert; 2], Area = [Vert; A], Volume = [Vert; V]>,
-{
-    fn parity(word: &u32) -> Parity {
-        Parity::from(*word == 0)
-    }
-    fn vert(number: &u32) -> Vert {
-        Vert::new(*number as usize)
-    }
-    fn element<const N: usize>(e: &Element) -> ([Vert; N], Parity) {
-        let corners = std::array::from_fn(|i| vert(&e.corners[i]));
-        (corners, parity(&e.parity))
-    }
-    Geometry {
-        verts: (mesh.verts.iter())
-            .map(|v| VertData {
-                position: v.bits.map(f32::from_bits).into(),
-                boundary: [0, 1, 2, 3].map(|axis| v.flags >> axis & 1 == 1),
-                generator: v.tag,
-                k: v.k,
-            })
-            .collect(),
-        curves: (mesh.curves.iter())
-            .map(|c| CurveData {
-                verts: c.verts.iter().map(vert).collect(),
-                parities: c.steps[..c.verts.len() - 1].iter().map(parity).collect(),
-                generator: c.tag,
-            })
-            .collect(),
-        points: mesh.points.iter().map(vert).collect(),
-        lines: mesh.lines.iter().map(element).collect(),
-        areas: mesh.areas.iter().map(element).collect(),
-        volumes: mesh.volumes.iter().map(element).collect(),
-    }
 }

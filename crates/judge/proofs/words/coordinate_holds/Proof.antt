@@ -1,4 +1,5 @@
 -- `judge::words::coordinate_holds` meets its contract. Assumes nothing.
+use mathlib.Core.Path.{refl}
 use lib.Ieee.{neg, ofBits}
 use Rattle.geom.specs.Refusals.{goodCoordinate}
 use Rattle.judge.proofs.words.coordinate_holds.Statement.{statement}
@@ -6,11 +7,7 @@ use Rattle.judge.proofs.words.coordinate_holds.Tie as tie
 
 returns : tie.Need-returns
 unfolding neg ofBits goodCoordinate
-returns c = rw (c .if1 .taken)
-
-returns-2 : tie.Need-returns-2
-unfolding neg ofBits goodCoordinate
-returns-2 c = rw (c .if1 .left)
+returns c = refl
 
 pub coordinate-holds-spec : {M : Type 1} → statement M
-coordinate-holds-spec = tie.close (tie.spec returns returns-2)
+coordinate-holds-spec = tie.close (tie.spec returns)

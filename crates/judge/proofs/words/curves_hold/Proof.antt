@@ -42,7 +42,7 @@ loop-again : tie.Need-loop-again Inv-loop μ-loop
 loop-again c = (omega arith, every-on _ _ _ (c .before .before .before .loop .inv .1) (curve-on _ _ _ (c .before .word .ensures) (c .if1 .left)))
 
 returns-2 : tie.Need-returns-2 Inv-loop μ-loop
-returns-2 c = every-done _ _ _ _ (c .before .loop .inv .0) (c .loop-test .left) (c .before .loop .inv .1)
+returns-2 c = every-done _ _ _ _ _ (c .before .loop .inv .0) (c .loop-test .left) (sym (c .before .loop .inv .1))
 
 pub curves-hold-spec : {M : Type 1} → statement M
 curves-hold-spec =

@@ -17,6 +17,9 @@ point-at-requires-3 c κs = omega (arith, c .before .before .before .pre .0, c .
 point-at-requires-4 : tie.Need-point-at-requires-4
 point-at-requires-4 c κs = omega (arith, c .before .before .before .before .pre .0, c .before .before .before .before .pre .1 .fourth)
 
+signs-requires : tie.Need-signs-requires
+signs-requires c κs = search needs
+
 sub-requires : tie.Need-sub-requires
 sub-requires c κs = search needs
 
@@ -29,14 +32,11 @@ sub-requires-3 c κs = search needs
 minors-requires : tie.Need-minors-requires
 minors-requires c κs = search needs
 
-sign-requires : tie.Need-sign-requires
-sign-requires c κs = search needs
-
-scale-requires : tie.Need-scale-requires
-scale-requires c κs = search needs
+times-requires : tie.Need-times-requires
+times-requires c κs = search needs
 
 returns : tie.Need-returns
-returns c = λ marks. volume-is _ _ _ marks _ _ _ _ (c .before .before .before .before .before .before .before .before .before .before .before .pre .1) _ _ _ _ _ _ _ _ _ _ (c .before .before .before .before .before .before .before .before .before .point-at .ensures) (c .before .before .before .before .before .before .before .before .point-at2 .ensures) (c .before .before .before .before .before .before .before .point-at3 .ensures) (c .before .before .before .before .before .before .point-at4 .ensures) (c .before .before .before .before .before .sub .ensures) (c .before .before .before .before .sub2 .ensures) (c .before .before .before .sub3 .ensures) (c .before .before .minors .ensures) (c .before .sign .ensures) (c .scale .ensures)
+returns c = λ marks. volume-is _ _ _ marks _ _ _ _ (c .before .before .before .before .before .before .before .before .before .before .before .pre .1) _ _ _ _ _ _ _ _ _ _ (c .before .before .before .before .before .before .before .before .before .point-at .ensures) (c .before .before .before .before .before .before .before .before .point-at2 .ensures) (c .before .before .before .before .before .before .before .point-at3 .ensures) (c .before .before .before .before .before .before .point-at4 .ensures) (c .before .before .before .before .sub .ensures) (c .before .before .before .sub2 .ensures) (c .before .before .sub3 .ensures) (c .before .minors .ensures) (c .before .before .before .before .before .signs .ensures) (c .times .ensures)
 
 pub volume-normal-spec : {M : Type 1} → statement M
 volume-normal-spec =
@@ -46,10 +46,10 @@ volume-normal-spec =
     point-at-requires-2
     point-at-requires-3
     point-at-requires-4
+    signs-requires
     sub-requires
     sub-requires-2
     sub-requires-3
     minors-requires
-    sign-requires
-    scale-requires
+    times-requires
     returns)

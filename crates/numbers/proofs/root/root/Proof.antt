@@ -9,7 +9,7 @@ use lib.Ieee.{Float, binary32, fits, ofBits, toBits}
 use lib.Ieee.Bits.{ofBits-fits, ofBits-toBits, toBits-lt}
 use lib.Ieee.Compare.{differs-from-itself}
 use Rattle.numbers.specs.Root.{root}
-use Rattle.numbers.proofs.Patterns.{equal-to-itself, below-infinity}
+use Rattle.numbers.proofs.Patterns.{equal-to-itself, widens, below-infinity}
 use Rattle.numbers.proofs.RootOf.{root-of-nan, root-of-zero, root-of-top, root-of-negative, root-fits}
 use Rattle.numbers.proofs.root.root.Statement.{statement}
 use Rattle.numbers.proofs.root.root.Tie as tie
@@ -46,15 +46,20 @@ returns-4 c =
     let start = c .before .before .before .before in
     sym (subst (λ (v : Float). root v ≡ v) (own start) (root-of-top _ (c .if4 .taken) (omega (arith, c .before .if3 .left, c .before .before .if2 .left))))
 
+float-to-float-root-bits : tie.Need-float-to-float-root-bits
+float-to-float-root-bits c =
+    let numeric = c .before .before .before .before in
+    widens _ (held (numeric .before)) (numeric .if1 .left)
+
 root-bits-requires : tie.Need-root-bits-requires
-root-bits-requires c κs = omega (arith, c .before .if3 .left, c .before .before .if2 .left)
+root-bits-requires c κs = search needs
 
 float-from-bits-result : tie.Need-float-from-bits-result
-float-from-bits-result c = below-infinity _ (c .root-bits .ensures .1)
+float-from-bits-result c = below-infinity binary32 _ (c .root-bits .ensures .1)
 
 returns-5 : tie.Need-returns-5
 returns-5 c =
-    let start = c .before .before .before .before .before in
+    let start = c .before .before .before .before .before .before in
     ap (ofBits binary32) (c .root-bits .ensures .0)
     ∙ ofBits-toBits binary32 _ (root-fits _ (ofBits-fits binary32 _))
     ∙ ap root (own start)
@@ -69,6 +74,7 @@ root-spec =
     not-a-number-requires
     returns-3
     returns-4
+    float-to-float-root-bits
     root-bits-requires
     float-from-bits-result
     returns-5)

@@ -20,13 +20,16 @@ add-root-pattern c = search needs
 add-root-pattern-2 : tie.Need-add-root-pattern-2
 add-root-pattern-2 c = search needs
 
+near-pattern-requires : tie.Need-near-pattern-requires
+near-pattern-requires c κs = search needs
+
 root-pattern-requires-2 : tie.Need-root-pattern-requires-2
 root-pattern-requires-2 c κs = search needs
 
 returns-2 : tie.Need-returns-2
 returns-2 c =
-    let p = c .before .before .pre in
-    (c .root-pattern2 .ensures .0 ∙ sym (ap (toBits binary32) (root-of-normal _ (c .before .if1 .left) (p .1))), c .root-pattern2 .ensures .1)
+    let p = c .before .before .before .pre in
+    (c .root-pattern2 .ensures .0 ∙ sym (ap (toBits binary32) (root-of-normal _ (c .before .before .if1 .left) (p .1))), c .root-pattern2 .ensures .1)
 
 pub root-bits-spec : {M : Type 1} → statement M
 root-bits-spec =
@@ -36,5 +39,6 @@ root-bits-spec =
     returns
     add-root-pattern
     add-root-pattern-2
+    near-pattern-requires
     root-pattern-requires-2
     returns-2)

@@ -25,29 +25,32 @@ cast-radicand c = search needs
 shl-radicand : tie.Need-shl-radicand
 shl-radicand c = shift-small _ _ (c .pre .0) (c .pre .1) (c .pre .2)
 
-whole-root-requires : tie.Need-whole-root-requires
-whole-root-requires c κs = rw (shifted _ _ (c .pre .0) (c .pre .1) (c .pre .2)) (radicand-below _ _ (c .pre .0) (c .pre .1) (c .pre .2))
+add-least : tie.Need-add-least
+add-least c = search needs
 
-add-rounded : tie.Need-add-rounded
-add-rounded c = omega (arith, c .whole-root .ensures .1)
+mul-least : tie.Need-mul-least
+mul-least c = search needs
+
+cast-wrapping-sub-u64 : tie.Need-cast-wrapping-sub-u64
+cast-wrapping-sub-u64 c = search needs
+
+wrapping-sub-u64-requires : tie.Need-wrapping-sub-u64-requires
+wrapping-sub-u64-requires c κs = search needs
+
+rounded-root-requires : tie.Need-rounded-root-requires
+rounded-root-requires c κs = let p = c .before .pre in rw (shifted _ _ (p .0) (p .1) (p .2)) (radicand-below _ _ (p .0) (p .1) (p .2))
+
+cast-result : tie.Need-cast-result
+cast-result c = search needs
 
 add-result : tie.Need-add-result
 add-result c = search needs
 
-mul-result : tie.Need-mul-result
-mul-result c = search needs
-
-cast-result : tie.Need-cast-result
-cast-result c = omega (arith, c .whole-root .ensures .1)
-
-add-result-2 : tie.Need-add-result-2
-add-result-2 c = omega (arith, c .whole-root .ensures .1, c .before .pre .3)
-
 returns : tie.Need-returns
 returns c =
-    let p = c .before .pre in (
-      rw (c .whole-root .ensures .0, shifted _ _ (p .0) (p .1) (p .2)) (pattern-is _ _ (p .0) (p .1) (p .2) (p .3)),
-      omega (arith, c .whole-root .ensures .1, p .3),
+    let p = c .before .before .pre in (
+      rw (c .rounded-root .ensures .0, shifted _ _ (p .0) (p .1) (p .2)) (pattern-is _ _ (p .0) (p .1) (p .2) (p .3)),
+      omega (arith, c .rounded-root .ensures .1, p .3),
     )
 
 pub root-pattern-spec : {M : Type 1} → statement M
@@ -60,10 +63,11 @@ root-pattern-spec =
     sub-radicand
     cast-radicand
     shl-radicand
-    whole-root-requires
-    add-rounded
-    add-result
-    mul-result
+    add-least
+    mul-least
+    cast-wrapping-sub-u64
+    wrapping-sub-u64-requires
+    rounded-root-requires
     cast-result
-    add-result-2
+    add-result
     returns)

@@ -1,46 +1,42 @@
--- `numbers::root::whole_root` meets its contract. The invariant: low is not above the root. The measure is what low lacks of 2 ^ 25. Assumes nothing.
-use Prim.Native.Nat.{_-_, _^_}
+-- `numbers::root::whole_root` meets its contract. The invariant: the root lies between low and high. The measure is what is between them. Assumes nothing.
+use Prim.Native.Nat.{_-_}
 use native.Mathlib.Omega.{arith}
-use borrow.Author.Needs.{needs}
-use Rattle.numbers.proofs.WholeRoot.{product-fits, NotAbove, not-above, last-is-root}
+use Rattle.numbers.proofs.WholeRoot.{Between, between-start, middle-fits, upper-half, lower-half, between-done}
 use Rattle.numbers.proofs.root.whole_root.Statement.{statement}
 use Rattle.numbers.proofs.root.whole_root.Tie as tie
 
 abbrev Inv-loop : tie.InvT-loop
-Inv-loop n low₀ low = NotAbove n low
+Inv-loop n low₀ high₀ low high = Between n low high
 
 abbrev μ-loop : tie.MeasureT-loop
-μ-loop n low₀ low = 2 ^ 25 - low
-
-guess-requires : tie.Need-guess-requires Inv-loop μ-loop
-guess-requires c κs = search needs
-
-not-above-requires : tie.Need-not-above-requires Inv-loop μ-loop
-not-above-requires c κs = search needs
+μ-loop n low₀ high₀ low high = high - low
 
 loop-holds : tie.Need-loop-holds Inv-loop μ-loop
-loop-holds c = not-above (c .before .before .pre) (c .not-above .ensures)
+loop-holds c = between-start (c .pre)
 
-add-loop : tie.Need-add-loop Inv-loop μ-loop
-add-loop c = omega (arith, c .loop .inv .small)
+sub-loop : tie.Need-sub-loop Inv-loop μ-loop
+sub-loop c = omega (arith, c .loop .inv .apart)
 
-add-loop-2 : tie.Need-add-loop-2 Inv-loop μ-loop
-add-loop-2 c = omega (arith, c .loop .inv .small)
+add-middle : tie.Need-add-middle Inv-loop μ-loop
+add-middle c = omega (arith, c .before .loop .inv .apart, c .before .loop .inv .small)
 
-mul-loop : tie.Need-mul-loop Inv-loop μ-loop
-mul-loop c = record { fits = product-fits (omega (arith, c .loop .inv .small)) (omega (arith, c .loop .inv .small)) }
-
-add-low : tie.Need-add-low Inv-loop μ-loop
-add-low c = omega (arith, c .before .loop .inv .small)
+mul-if1 : tie.Need-mul-if1 Inv-loop μ-loop
+mul-if1 c = record { fits = middle-fits (c .before .loop .inv) }
 
 loop-less : tie.Need-loop-less Inv-loop μ-loop
-loop-less c = omega (arith, c .before .loop .inv .small)
+loop-less c = omega arith
 
 loop-again : tie.Need-loop-again Inv-loop μ-loop
-loop-again c = not-above (c .before .before .before .before .pre) (c .loop-test .taken)
+loop-again c = upper-half (c .before .before .loop .inv) (c .if1 .taken)
+
+loop-less-2 : tie.Need-loop-less-2 Inv-loop μ-loop
+loop-less-2 c = omega arith
+
+loop-again-2 : tie.Need-loop-again-2 Inv-loop μ-loop
+loop-again-2 c = lower-half (c .before .before .loop .inv) (c .if1 .left)
 
 returns : tie.Need-returns Inv-loop μ-loop
-returns c = (last-is-root (c .before .loop .inv) (c .loop-test .left), c .before .loop .inv .small)
+returns c = let between = c .before .loop .inv in (between-done between (c .loop-test .left), omega (arith, between .apart, between .small))
 
 pub whole-root-spec : {M : Type 1} → statement M
 whole-root-spec =
@@ -48,13 +44,12 @@ whole-root-spec =
     (tie.spec
     Inv-loop
     μ-loop
-    guess-requires
-    not-above-requires
     loop-holds
-    add-loop
-    add-loop-2
-    mul-loop
-    add-low
+    sub-loop
+    add-middle
+    mul-if1
     loop-less
     loop-again
+    loop-less-2
+    loop-again-2
     returns)
