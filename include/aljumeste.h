@@ -4,7 +4,7 @@
  * any words in lists of any lengths, any sizes. What a caller owes is C's own part:
  * - A list is a pointer and its length in words (for the file, in bytes). The pointer is good for that many, aligned, and not NULL
  *   even where the length is 0.
- * - Lists that a call writes overlap no other list of that call.
+ * - Lists that a call writes, and its `answer`, overlap nothing else that is handed to that call.
  *
  * LISTS. A mesh is kept in eight lists of rows; entries are numbered from 0 and stand in the first rows. A list's lent cells are its
  * length divided by the words of a row, rounded down; vertices are in two lists, and have the smaller of the two numbers.
@@ -112,10 +112,10 @@ void aljumeste_left(
     const uint32_t *first, size_t first_words, const uint32_t *second, size_t second_words,
     uint8_t passes, size_t words, size_t answer[2]);
 
-/* The same of the positions. */
+/* The same of the positions, whose words are numbers. */
 void aljumeste_left_positions(
     const float *first, size_t first_words, const float *second, size_t second_words,
-    uint8_t passes, size_t words, size_t answer[2]);
+    uint8_t passes, size_t numbers, size_t answer[2]);
 
 /* Cuts cubes into simplices: at most two triangles (rows of 4) a square and six tetrahedra (rows of 5) a cube, in the order of the
  * squares and cubes. All else of the mesh stays as it is. `answer` becomes the sizes of the mesh of simplices; after a refusal those
@@ -146,7 +146,7 @@ uint8_t aljumeste_compute_normals_4d(
     const size_t sizes[7], float *normals, size_t normals_words);
 
 /* Reads a whole file onto the first bench; of the second the lengths alone count. answer[0] becomes the kind, the other seven words the
- * sizes, which are 0 after a refusal. Beside a curve's last vertex 0 is written. */
+ * sizes; after a refusal all eight are 0. Beside a curve's last vertex 0 is written. */
 uint8_t aljumeste_read(
     const uint8_t *file, size_t file_bytes,
     float *positions, size_t positions_words, uint32_t *marks, size_t marks_words,

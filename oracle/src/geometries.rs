@@ -20,12 +20,22 @@ use reference::{
 };
 use std::fmt;
 
-/// A mesh, how deep it is refined and whether time is smoothed.
+/// A mesh, how deep it is refined and whether time is smoothed; and what becomes of its file before it is read.
 #[derive(Clone)]
 pub struct Figured {
     mesh: Mesh,
     depth: u8,
     smooth_time: bool,
+    spoilt: Spoilt,
+}
+
+/// A file as it is; with one byte another, by its place modulo the length; cut there; or with a byte more.
+#[derive(Copy, Clone, Debug)]
+enum Spoilt {
+    Not,
+    At(usize, u8),
+    Cut(usize),
+    Longer,
 }
 
 /// So many meshes of a kind; stops at the first on which the two sides differ.
@@ -56,26 +66,47 @@ fn draw(rng: &mut Rng, kind: Kind) -> Figured {
             *last = 0;
         }
     }
+    // Now and then the version or the kind.
+    let place = if rng.once_in(8) {
+        rng.below(2)
+    } else {
+        rng.below(1 << 20)
+    };
+    let byte = if rng.once_in(2) {
+        2
+    } else {
+        rng.below(256) as u8
+    };
     Figured {
         mesh,
         depth: rng.below(4) as u8,
         smooth_time: rng.once_in(2),
+        spoilt: rng.pick(&[
+            Spoilt::Not,
+            Spoilt::At(place, byte),
+            Spoilt::At(place, byte),
+            Spoilt::Cut(place),
+            Spoilt::Longer,
+        ]),
     }
 }
 
 /// A coordinate, a vertex number or a curve, where there is one.
 fn hurt(rng: &mut Rng, mesh: &mut Mesh) {
     let (verts, way) = (mesh.verts.len(), rng.below(3));
-    let lists = [&mut mesh.lines, &mut mesh.areas, &mut mesh.volumes];
-    let corners = lists.into_iter().flatten().flat_map(|e| &mut e.corners);
     match way {
         0 if verts > 0 => {
             let wrong = [1024.001, -1e9, f32::INFINITY, f32::NAN].map(f32::to_bits);
             mesh.verts[rng.below(verts)].bits[rng.below(4)] = rng.pick(&wrong);
         }
         1 => {
-            if let Some(corner) = corners.chain(&mut mesh.points).last() {
-                *corner = verts as u32;
+            let lists = [&mut mesh.lines, &mut mesh.areas, &mut mesh.volumes];
+            let corners = lists.into_iter().flatten().flat_map(|e| &mut e.corners);
+            let strands = mesh.curves.iter_mut().flat_map(|c| &mut c.verts);
+            let mut numbers: Vec<_> = corners.chain(&mut mesh.points).chain(strands).collect();
+            let count = numbers.len();
+            if count > 0 {
+                *numbers[rng.below(count)] = verts as u32;
             }
         }
         _ => {
@@ -107,7 +138,8 @@ fn differs(figured: &Figured) -> Result<Vec<String>, String> {
             )?,
         ],
     };
-    classes.push(opened(&figured.mesh)?);
+    let number = opened(&figured.file())?;
+    classes.push(format!("read: {number}"));
     Ok(classes)
 }
 
@@ -138,6 +170,7 @@ where
         mesh: before,
         depth,
         smooth_time,
+        ..
     } = figured;
     let mut geom = geometry(before);
     let answer = subdivide(&mut geom, *smooth_time, *depth);
@@ -193,11 +226,10 @@ fn shaded<const D: usize, T: Copy + Into<[f32; D]>>(
     Ok(format!("normals in {D}D: {number}"))
 }
 
-/// The mesh through a file.
-fn opened(written: &Mesh) -> Result<String, String> {
-    let bytes = file::encode(written);
-    let answer = read(&bytes);
-    let expected = file::decode(&bytes, &Sizes::all(LIMIT));
+/// Reads a file on both sides: the number on which they agree, or in words where they first differ.
+pub fn opened(bytes: &[u8]) -> Result<u8, String> {
+    let answer = read(bytes);
+    let expected = file::decode(bytes, &Sizes::all(LIMIT));
     let number = expected.as_ref().err().copied().unwrap_or(0);
     same("reading is refused by", &told(&answer), &number)?;
     if let (Ok(figure), Ok(expected)) = (answer, expected) {
@@ -207,7 +239,23 @@ fn opened(written: &Mesh) -> Result<String, String> {
         };
         same("reading gives", &read, &expected)?;
     }
-    Ok(format!("read: {number}"))
+    Ok(number)
+}
+
+impl Figured {
+    fn file(&self) -> Vec<u8> {
+        let mut bytes = file::encode(&self.mesh);
+        match self.spoilt {
+            Spoilt::Not => (),
+            Spoilt::At(place, byte) => {
+                let length = bytes.len();
+                bytes[place % length] = byte;
+            }
+            Spoilt::Cut(place) => bytes.truncate(place % bytes.len()),
+            Spoilt::Longer => bytes.push(0),
+        }
+        bytes
+    }
 }
 
 impl Shrink for Figured {
@@ -229,9 +277,10 @@ impl fmt::Display for Figured {
         writeln!(f, "{:?}", self.mesh)?;
         writeln!(
             f,
-            "depth {}, smooth_time {}",
+            "depth {}, smooth_time {}, the file {:?}",
             self.depth,
-            u8::from(self.smooth_time)
+            u8::from(self.smooth_time),
+            self.spoilt
         )
     }
 }
@@ -268,23 +317,28 @@ mod tests {
         }
     }
 
-    /// Every answer is met by every entry.
+    /// Every answer that a geometry or a file can get is met, but for 9 and 10, which tests of the crate bring about.
     #[test]
     fn as_the_original() {
+        let [door, file] = [&[0, 6, 7, 8][..], &[0, 1, 2, 3, 4, 5, 6, 7, 8]];
         for (kind, works) in [
-            (Kind::Cubes, &["refined", "cut", "read"][..]),
+            (
+                Kind::Cubes,
+                &[("refined", door), ("cut", door), ("read", file)][..],
+            ),
             (
                 Kind::Simplices,
-                &["refined", "normals in 3D", "normals in 4D", "read"],
+                &[
+                    ("refined", door),
+                    ("normals in 3D", door),
+                    ("normals in 4D", door),
+                    ("read", file),
+                ],
             ),
         ] {
-            let wanted = works.iter().flat_map(|work| {
-                [0, 6, 7, 8].map(|number| {
-                    (
-                        format!("{work}: {number}"),
-                        if number == 0 { 1000 } else { 20 },
-                    )
-                })
+            let wanted = works.iter().flat_map(|(work, numbers)| {
+                let class = |number: &u8| (format!("{work}: {number}"), 5);
+                numbers.iter().map(class).collect::<Vec<_>>()
             });
             compare(kind, 1, 3000).is_whole(3000, wanted);
         }

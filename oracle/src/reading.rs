@@ -273,10 +273,11 @@ mod tests {
     use super::*;
     use crate::{
         desk::{flip, slices_mut},
+        geometries::opened,
         refinement::tests::piled,
         written::{Edit, Field},
     };
-    use reference::mesh::LIMIT;
+    use reference::{file::encode, mesh::LIMIT};
 
     const CASES: u64 = 20_000;
 
@@ -361,6 +362,33 @@ mod tests {
                 for (number, times) in met.iter().enumerate() {
                     assert_eq!(*times > 0, number != 9, "{kind:?}, {number}: {met:?}");
                 }
+            }
+        }
+    }
+
+    /// The same through a geometry, which is lent what it needs: each byte made one that is no parity and one that is no flags, and cut at
+    /// each length.
+    #[test]
+    fn a_small_file_as_a_geometry() {
+        for kind in KINDS {
+            let file = encode(&piled(kind, &sizes(&[2, 1, 1, 1, 1, 2, 4, 0])));
+            let mut met = [0; 11];
+            let mut try_one = |file: &[u8]| {
+                let number = opened(file).unwrap_or_else(|why| panic!("{file:02X?}: {why}"));
+                met[usize::from(number)] += 1;
+            };
+            for at in 0..file.len() {
+                let mut spoiled = file.clone();
+                for byte in [2, 255] {
+                    spoiled[at] = byte;
+                    try_one(&spoiled);
+                }
+                try_one(&file[..at]);
+            }
+            try_one(&file);
+            try_one(&[&file[..], &[0]].concat());
+            for number in [0, 1, 2, 3, 4, 5, 6, 7, 10] {
+                assert!(met[number] > 0, "{kind:?}, {number}: {met:?}");
             }
         }
     }

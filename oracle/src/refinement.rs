@@ -136,6 +136,12 @@ pub fn differs(case: &Case, engine: Engine) -> Result<Answer, String> {
         Some(mesh) => {
             let left = exports::left(kind, &desk, expected.passes, &expected.sizes);
             same_lists(&left, mesh)?;
+            // The first bench after an even number of passes, the second after an odd one.
+            let bench = [&desk.first, &desk.second][expected.passes % 2];
+            for (slice, name) in SLICES.iter().enumerate() {
+                let ours = slices(&left)[slice];
+                same_words(name, ours, &slices(bench)[slice][..ours.len()])?;
+            }
         }
     }
     Ok(expected)

@@ -1,7 +1,8 @@
 //! Geometries and the entries that leave elements: the rows that an entry has written become a geometry's own lists, where they stand.
 //!
-//! `unsafe` says one thing here: the engine left these rows. It is proved that the last word of each row that an answer counts is 0 or 1:
-//! in crates/geom/specs by `Leaves` for a refinement, by `triangulation`, and by `loaded` for a file. Past these rows any word may stand.
+//! `unsafe` says one thing here: the engine left these rows. The exports are proved to leave 0 or 1 as the last word of each row that an
+//! answer counts: their contracts say it by crates/geom/specs, by `Leaves` for a refinement, by `triangulation`, and by `loaded` for a
+//! file. Past these rows any word may stand.
 #![allow(unsafe_code)]
 
 use crate::{

@@ -127,7 +127,9 @@ fn files_that_are_refused() {
     };
     assert_eq!(changed(0, 2), Refusal::Version);
     assert_eq!(changed(1, 2), Refusal::Kind);
+    // A flag byte, and the line's parity.
     assert_eq!(changed(6 + 16, 16), Refusal::Byte);
+    assert_eq!(changed(example().len() - 13, 2), Refusal::Byte);
     assert_eq!(changed(6, 0xff), Refusal::Coordinate);
     assert_eq!(changed(example().len() - 14, 2), Refusal::Vertex);
     let mut file = example();

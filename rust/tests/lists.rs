@@ -1,4 +1,4 @@
-//! Each list by itself and all others empty, through every entry.
+//! Each list by itself and all others empty, refined, cut and given normals; and no list at all, through every entry.
 mod common;
 
 use aljumeste::{

@@ -13,27 +13,14 @@ use Rattle.told.specs.Told.{verdictBy, numberOf, Numbered, sizesFrom, to
 pub number-by : {e f : Ended} → e ≡ f → Numbered (verdictOf e) → verdictBy (numberOf (verdictOf f)) ≡ verdictOf e
 number-by p n = ap (λ (x : Ended). verdictBy (numberOf (verdictOf x))) (sym p) ∙ n
 
--- the eight words of an answer
-unfoldable pub words : Refined → List ℕ
-words r =
-    r .passes
-    ∷ r .sizes .vertices
-    ∷ r .sizes .points
-    ∷ r .sizes .lines
-    ∷ r .sizes .areas
-    ∷ r .sizes .volumes
-    ∷ r .sizes .curves
-    ∷ r .sizes .«curve_vertices»
-    ∷ []
-
-pub told-by : (r : Refined) (n : ℕ) → verdictBy n ≡ verdictOf (r .ended) → toldOf n (words r) ≡ told r
-unfolding told toldOf sizesFrom words
-told-by r n h = ap (λ (v : Verdict). record { passes = r .passes; sizes = r .sizes; verdict = v }) h
-
--- the seven words of an answer
+-- the seven words of sizes
 unfoldable pub sizesWords : Sizes → List ℕ
 sizesWords s =
     s .vertices ∷ s .points ∷ s .lines ∷ s .areas ∷ s .volumes ∷ s .curves ∷ s .«curve_vertices» ∷ []
+
+pub told-by : (r : Refined) (n : ℕ) → verdictBy n ≡ verdictOf (r .ended) → toldOf n (r .passes ∷ sizesWords (r .sizes)) ≡ told r
+unfolding told toldOf sizesFrom sizesWords
+told-by r n h = ap (λ (v : Verdict). record { passes = r .passes; sizes = r .sizes; verdict = v }) h
 
 pub outcome-by : (a : Answer) (n : ℕ) → verdictBy n ≡ verdictOf (a .ended) → outcomeFrom n (sizesWords (a .sizes)) ≡ outcomeOf a
 unfolding outcomeOf outcomeFrom sizesFrom sizesWords

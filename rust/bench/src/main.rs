@@ -4,7 +4,6 @@
 //! `cargo run --release` prints a row a mesh: the ratio of the times first, beside it that of the instructions, which callgrind counts and
 //! which don't vary from run to run; then times, instructions and memory. A word after it takes the works alone that begin with it. `one
 //! WORK SIZE SIDE CALLS` does one work, for callgrind and for the memory.
-#[allow(dead_code)]
 #[path = "../../../oracle/src/block.rs"]
 mod block;
 #[path = "../../../oracle/src/geometry.rs"]
@@ -81,9 +80,11 @@ fn best(work: &Work) -> (Duration, Duration) {
     (ours, theirs)
 }
 
-/// The ratio of the instructions, and those of each side for an entry. What is done before the call is counted by itself and taken off.
+/// The ratio of the instructions, and those of each side for an entry; nothing where there is no valgrind. What is done before the call is
+/// counted by itself and taken off.
 fn instructions(name: &str, size: u32, entries: usize) -> [String; 3] {
-    if entries > COUNTED {
+    let here = || Command::new("valgrind").arg("--version").output().is_ok();
+    if entries > COUNTED || !here() {
         return ["", "", ""].map(String::from);
     }
     let [ours, theirs] = Side::BOTH.map(|side| {

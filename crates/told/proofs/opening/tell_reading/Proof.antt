@@ -1,6 +1,5 @@
 -- `told::opening::tell_reading` meets its contract: the words say the answer (`opening-by`). Assumes nothing.
-use Rattle.told.proofs.Saying.{sizesWords}
-use Rattle.told.proofs.Saying.{opening-by}
+use Rattle.told.proofs.Saying.{sizesWords, opening-by}
 use borrow.Author.Needs.{needs}
 use Rattle.told.proofs.opening.tell_reading.Statement.{statement}
 use Rattle.told.proofs.opening.tell_reading.Tie as tie

@@ -1,5 +1,5 @@
 -- `told::words::tell` meets its contract: the words say the answer (`told-by`). Assumes nothing.
-use Rattle.told.proofs.Saying.{words, told-by}
+use Rattle.told.proofs.Saying.{sizesWords, told-by}
 use borrow.Author.Needs.{needs}
 use Rattle.told.proofs.words.tell.Statement.{statement}
 use Rattle.told.proofs.words.tell.Tie as tie
@@ -11,7 +11,7 @@ number-requires : tie.Need-number-requires
 number-requires c κs = search needs
 
 returns : tie.Need-returns
-unfolding words
+unfolding sizesWords
 returns c = told-by _ _ (c .number .ensures)
 
 pub tell-spec : {M : Type 1} → statement M
