@@ -42,22 +42,27 @@ fn read_kind<const A: usize, const V: usize, E>(
 where
     E: ElementData<Point = Vert, Line = [Vert; 2], Area = [Vert; A], Volume = [Vert; V]>,
 {
-    match Geometry::read(kind, file, &stated(file, 4 * A + 1, 4 * V + 1)) {
-        // A count that the file has no bytes for may still be below the limit, where 10 is not due: such a file is judged again.
-        Err(Refusal::Full { .. }) => Geometry::read(kind, file, &[LIMIT; 7]),
+    let mut cells = stated(file, 4 * A + 1, 4 * V + 1);
+    match Geometry::read(kind, file, &cells) {
+        // A curve that states more vertices than the file has bytes for may still be below the limit, where 10 is not due: judged again.
+        Err(Refusal::Full { .. }) => {
+            cells[6] = LIMIT;
+            Geometry::read(kind, file, &cells)
+        }
         read => read,
     }
 }
 
-/// The entries that a file states, as far as it has bytes for them. An area and a volume have so many.
+/// The entries that a file states, up to the limit, and as many vertices of curves as it has bytes for. An area and a volume have so many
+/// bytes. Behind a list that lacks bytes nothing is read, so nothing is lent.
 fn stated(file: &[u8], area: usize, volume: usize) -> Sizes {
     let mut rest = file.get(2..).unwrap_or_default();
     let mut count = |bytes: usize| {
         let Some((count, rows)) = rest.split_first_chunk() else {
             return 0;
         };
-        let count = (u32::from_be_bytes(*count) as usize).min(rows.len() / bytes);
-        rest = &rows[count * bytes..];
+        let count = u32::from_be_bytes(*count) as usize;
+        rest = rows.get(count * bytes..).unwrap_or_default();
         count
     };
     let [verts, points, lines, areas, volumes] = [25, 4, 9, area, volume].map(&mut count);
@@ -81,11 +86,14 @@ mod tests {
             file.extend(vec![0; bytes]);
         }
         assert_eq!(stated(&file, 17, 33), [1, 2, 1, 1, 0, 2, 3]);
-        // The last list has fewer bytes than it states.
+        // The last list has fewer bytes than it states, then the first.
         file.truncate(file.len() - 20);
-        assert_eq!(stated(&file, 17, 33), [1, 2, 1, 1, 0, 1, 0]);
+        assert_eq!(stated(&file, 17, 33), [1, 2, 1, 1, 0, 2, 0]);
         file.truncate(20);
-        assert_eq!(stated(&file, 17, 33), [0; 7]);
+        assert_eq!(stated(&file, 17, 33), [1, 0, 0, 0, 0, 0, 0]);
+        // More than the limit, and nothing.
+        file[2] = 255;
+        assert_eq!(stated(&file, 17, 33), [LIMIT, 0, 0, 0, 0, 0, 0]);
         assert_eq!(stated(&[], 17, 33), [0; 7]);
     }
 }
