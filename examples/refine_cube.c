@@ -33,7 +33,7 @@ static const struct bench cube = {
 static const size_t sizes[7] = {8, 1, 0, 0, 1, 1, 3};
 
 static struct bench first, second;
-static uint32_t book[4 * MIDPOINTS], tallies[2 * VERTICES];
+static uint32_t book[ALJUMESTE_BOOK_WORDS * MIDPOINTS], tallies[2 * VERTICES];
 static float sums[4 * VERTICES];
 
 static char letter(uint32_t parity) {

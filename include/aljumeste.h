@@ -23,7 +23,7 @@
  * Lists sit on two benches, the second's names beginning with other_. A mesh is handed in on the first. What is left stands on the
  * first bench after an even number of passes, on the second after an odd one (aljumeste_left says where). Refining is also lent:
  *
- *   book        4   a cell for each midpoint that is made
+ *   book        6   a cell for each midpoint that is made (ALJUMESTE_BOOK_WORDS)
  *   sums        4   as many cells as the vertices have
  *   tallies     2   as many cells as the vertices have
  *
@@ -42,6 +42,9 @@ extern "C" {
 
 /* The most entries of each list, and of the book. */
 #define ALJUMESTE_LIMIT 1048576
+
+/* The words of a cell of the book. */
+#define ALJUMESTE_BOOK_WORDS 6
 
 /* The places of the seven sizes: the entries of each list. */
 enum {

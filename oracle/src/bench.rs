@@ -3,6 +3,7 @@
 use crate::{
     block::{block, sheet},
     case::Case,
+    crafted::{anywhere, deep_in_one_bucket, in_one_bucket, verts},
     derived::{Call, Entry},
     desk::Desk,
     draw::{needs, sizes},
@@ -162,6 +163,24 @@ pub fn tables(kind: Kind) {
     heading();
     for ready in shapes(kind) {
         ready.print();
+    }
+    println!();
+}
+
+/// A table for lines that crowd one bucket of the book, beside lines that don't.
+pub fn lines() {
+    heading("mesh | passes", "entries left");
+    for lines in [3_000, 30_000, 300_000] {
+        for (name, mesh) in [
+            ("anywhere", anywhere(lines)),
+            ("in one bucket", in_one_bucket(lines)),
+            (
+                "deep in one bucket",
+                deep_in_one_bucket(lines, verts(lines)),
+            ),
+        ] {
+            Ready::new(format!("{lines} lines {name}"), mesh, 1).print();
+        }
     }
     println!();
 }

@@ -2,7 +2,7 @@
 //! it.
 use crate::desk::{slices_mut, Desk, SLICES};
 use reference::{
-    memory::{Bench, Handed},
+    memory::{Bench, Handed, BOOK_WORDS},
     mesh::{Kind, Mesh, Sizes},
     random::Rng,
 };
@@ -127,7 +127,7 @@ impl Case {
         Case {
             second: given.words,
             given,
-            book: 4 * book,
+            book: BOOK_WORDS * book,
             sums: 4 * cells.verts,
             tallies: 2 * cells.verts,
             depth,

@@ -5,7 +5,7 @@ use crate::{
     damage::{hurt, other_length, DAMAGES, EMPTY_CURVE},
 };
 use reference::{
-    memory::subdivided,
+    memory::{subdivided, BOOK_WORDS},
     mesh::{Kind, Mesh, Sizes},
     random::{self, Bounds, Rng},
 };
@@ -194,7 +194,7 @@ fn free_words(rng: &mut Rng, case: &mut Case) {
         case.given.words[slice] += rng.below(row);
         case.second[slice] += rng.below(row);
     }
-    case.book += rng.below(4);
+    case.book += rng.below(BOOK_WORDS);
     case.sums += rng.below(4);
     case.tallies += rng.below(2);
     // Of a list in two slices the smaller number of cells counts.

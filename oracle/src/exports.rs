@@ -7,7 +7,7 @@ use crate::{
 };
 use aljumeste::raw;
 use reference::{
-    memory::Bench,
+    memory::{Bench, BOOK_WORDS},
     mesh::{Kind, Sizes},
 };
 use std::{
@@ -16,6 +16,9 @@ use std::{
 };
 
 pub use aljumeste::raw::{normalise_3d, normalise_4d, root};
+
+/// The crate and the reference count the book's cells alike.
+const _: () = assert!(raw::BOOK_WORDS == BOOK_WORDS);
 
 pub fn subdivide(kind: Kind, desk: &mut Desk, sizes: &Sizes, depth: u8, smooth_time: u8) -> Told {
     timed_subdivide(kind, desk, sizes, depth, smooth_time).0

@@ -14,6 +14,7 @@ mod bench;
 mod block;
 mod case;
 mod closed;
+mod crafted;
 mod damage;
 mod derived;
 mod desk;
@@ -95,9 +96,14 @@ fn main() -> ExitCode {
         }),
         ["bench"] => {
             KINDS.into_iter().for_each(bench::tables);
+            bench::lines();
             ENTRIES
                 .into_iter()
                 .for_each(|(_, entry)| bench::table(entry));
+            Some(true)
+        }
+        ["bench", "lines"] => {
+            bench::lines();
             Some(true)
         }
         ["bench", entry] => entry_named(entry).map(|entry| {
@@ -115,7 +121,7 @@ fn main() -> ExitCode {
         Some(true) => ExitCode::SUCCESS,
         Some(false) => ExitCode::from(1),
         None => {
-            eprintln!("usage: cargo run --release -- all | spread | WHAT SEED COUNT | sample KIND | bench [ENTRY] | bench one WHAT SIZE SIDE | ledger [SEED COUNT] | geometry SEED COUNT");
+            eprintln!("usage: cargo run --release -- all | spread | WHAT SEED COUNT | sample KIND | bench [ENTRY | lines] | bench one WHAT SIZE SIDE | ledger [SEED COUNT] | geometry SEED COUNT");
             eprintln!("KIND is cubes or simplices, ENTRY triangulation, normals3 or normals4, WHAT either, file or sheet, SIDE library, original or none");
             ExitCode::from(2)
         }

@@ -212,10 +212,11 @@ fn same_lists(left: &Bench, mesh: &Mesh) -> Result<(), String> {
 pub mod tests {
     use super::*;
     use crate::{
+        crafted,
         damage::DAMAGES,
         derived::{self, Call, ENTRIES},
         desk::flip,
-        draw::LISTS,
+        draw::{needs, sizes, LISTS},
         reading::{self, Reading},
         KINDS,
     };
@@ -375,6 +376,23 @@ pub mod tests {
             let case = Case::new(mesh, &cells, LIMIT + 9, 255, 0);
             let answer = differs(&case, &exports::subdivide).unwrap();
             assert_eq!((answer.passes, number(answer.ended)), (passes, 10));
+        }
+    }
+
+    /// Lines whose pairs crowd one bucket of the book, where its tree is the deepest.
+    #[test]
+    fn crowded_books_are_refined_as_by_the_reference() {
+        for kind in KINDS {
+            for mesh in [
+                crafted::in_one_bucket(2_000),
+                crafted::deep_in_one_bucket(2_000, 50_000),
+            ] {
+                let mesh = Mesh { kind, ..mesh };
+                let cells = needs(&mesh, 1, true)[1];
+                let case = Case::new(mesh, &sizes(&cells), cells[7], 1, 1);
+                let answer = differs(&case, &exports::subdivide).unwrap();
+                assert_eq!((answer.passes, number(answer.ended)), (1, 0));
+            }
         }
     }
 

@@ -14,7 +14,7 @@ use crate::{
     refinement::number,
 };
 use reference::{
-    memory::{Answer, Bench},
+    memory::{Answer, Bench, BOOK_WORDS},
     mesh::{Kind, Sizes},
     random::Rng,
 };
@@ -110,7 +110,7 @@ fn is_plain(case: &Case) -> bool {
         && few
         && case.given.words == case.second
         && case.given.words[1] == 3 * verts
-        && (case.book % 4, case.sums, case.tallies) == (0, 4 * verts, 2 * verts)
+        && (case.book % BOOK_WORDS, case.sums, case.tallies) == (0, 4 * verts, 2 * verts)
 }
 
 /// What a case is a case of. A case that is refused at the door for another reason than what is wrong on purpose is of no class.
@@ -147,7 +147,7 @@ fn highest(sizes: &Sizes) -> &'static str {
 fn text(case: &Case, handed: &Bench, answer: &Answer, expected: &Bench) -> String {
     let kind = case.given.mesh.kind;
     let mut cells = Bench::cells(handed, kind).list().to_vec();
-    cells.push(case.book / 4);
+    cells.push(case.book / BOOK_WORDS);
     format!(
         "{} {} {}\n{}\n{}\n{}{} {}\n{}\n{}",
         kind.byte(),

@@ -9,7 +9,7 @@ use crate::{
     geom::{CubicalGeometry, ElementData, Geometry, SimplicialGeometry, Vert},
     lending::{needs, Kind},
     lists::Lists,
-    raw::{self, Desk, Sizes},
+    raw::{self, Desk, Sizes, BOOK_WORDS},
     rows, words, Refusal, LIMIT,
 };
 
@@ -32,7 +32,7 @@ where
             Desk {
                 first: first.lent(),
                 second: second.lent(),
-                book: &mut vec![0; 4 * book],
+                book: &mut vec![0; BOOK_WORDS * book],
                 sums: &mut vec![0.0; 4 * cells[0]],
                 tallies: &mut vec![0; 2 * cells[0]],
             },

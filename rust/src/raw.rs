@@ -5,7 +5,7 @@
 //! pointer and its length, and is borrowed until the call is over; lists that are written are apart from all others.
 //!
 //! ```
-//! use aljumeste::raw::{self, Bench, Desk};
+//! use aljumeste::raw::{self, Bench, Desk, BOOK_WORDS};
 //!
 //! // A line from vertex 0 to vertex 1, refined once: cells for three vertices, two lines and one midpoint.
 //! let (mut positions, mut marks, mut lines) = ([0.0; 12], [0; 9], [0; 6]);
@@ -25,7 +25,7 @@
 //!         lines: &mut other_lines,
 //!         ..Bench::default()
 //!     },
-//!     book: &mut [0; 4],
+//!     book: &mut [0; BOOK_WORDS],
 //!     sums: &mut [0.0; 12],
 //!     tallies: &mut [0; 6],
 //! };
@@ -37,6 +37,9 @@
 
 /// One number for each list: vertices, points, lines, areas, volumes, curves, curve vertices.
 pub type Sizes = [usize; 7];
+
+/// The words of a cell of the midpoint book.
+pub const BOOK_WORDS: usize = 6;
 
 /// What an export tells: the refusal's number, 0 where there is none, and the words of its answer.
 pub type Told<const WORDS: usize> = (u8, [usize; WORDS]);
@@ -107,7 +110,7 @@ pub struct Desk<'a> {
     pub first: Bench<'a>,
     /// Where it is left after an odd number. Its lists have as many cells as the first's.
     pub second: Bench<'a>,
-    /// The midpoint book, four words a midpoint.
+    /// The midpoint book, [`BOOK_WORDS`] a midpoint.
     pub book: &'a mut [u32],
     /// Smoothing's sums, four numbers a vertex: as many cells as the vertices have.
     pub sums: &'a mut [f32],

@@ -1,4 +1,3 @@
--- The book over lent cells: the definition's search over places, and the links that lead to the same.
+-- The book over lent cells: the definition's search over places, and what the index's answers make of the book.
 pub mod Search
-pub mod Links
 pub mod Placing

@@ -6,7 +6,7 @@ use mathlib.Core.List.{List, [], _∷_, _++_, map}
 use Prim.Native.Nat.{ℕ, zero, suc, _*_, _/_, _≤_, _<_}
 use native.Mathlib.Nat.{le-div-iff-mul-le, suc-mul, mul-comm, zero-lt-suc}
 use native.Mathlib.Omega.{arith}
-use lib.Dec.{T, eqb, leb, leb→le, ltb→lt}
+use lib.Dec.{T, eqb, ltb→lt}
 use lib.Ieee.Fits.{and-l, and-r}
 use lib.ListN.{length, take, drop, length-take, length-drop}
 use Rattle.geom.specs.declared.answer.Sizes.{Sizes}
@@ -16,11 +16,13 @@ use Rattle.geom.specs.Book.{Kind, cubes, simplices}
 use Rattle.geom.specs.Elements.{Curve}
 use Rattle.geom.specs.Ledger.{faceShape, volumeShape}
 use Rattle.geom.specs.Answers.{Verdict, accepted, refused, verdictOf, Due, firstDue}
-use Rattle.geom.specs.Memory.{Bench, cells, ElementRow, CurveRow, StepRow, Rows, firstOf, elementRow, rowsOf, areaCorners, volumeCorners, elementOf, curvesOf, meshOf}
+use Rattle.geom.specs.Form.{Form}
+use Rattle.geom.specs.Memory.{BenchIn, cells, ElementRow, CurveRow, StepRow, RowsIn, firstOf, elementRow, rowsOf, areaCorners, volumeCorners, elementOf, curvesOf, meshOf}
 use Rattle.geom.specs.Refinement.{within}
-use Rattle.geom.specs.Refusals.{every, goodParity, goodNumber, curveLengths, countsHold, numbersHold, handedIn, Desk, benchesHold, refinementVerdict}
+use Rattle.geom.specs.Refusals.{every, goodParity, goodNumber, curveLengths, countsHold, numbersHold, handedIn, DeskIn, benchesHold, refinementVerdict}
 use Rattle.geom.proofs.Rows.{length-firstOf}
-use Rattle.geom.proofs.Lists.{All, all-map, all-append, all-of-map}
+use Rattle.geom.proofs.Lists.{All, true-is, all-map, all-append, all-of-map, all-take, all-drop}
+use Rattle.geom.proofs.Within.{within-facts}
 use Rattle.geom.proofs.Well.{Below, Proper, Well}
 
 -- ---- tests that passed
@@ -61,45 +63,35 @@ pub accepted-by : {ended : Ended} {v : Verdict} → verdictOf ended ≡ v → en
 unfolding verdictOf
 accepted-by j e = sym j ∙ ap verdictOf e
 
-holds : (b : Bool) → not b ≡ false → T b
+pub holds : (b : Bool) → not b ≡ false → T b
 holds true e = tt
 holds false e = subst T e tt
 
-every-holds : {A : Type 0} (test : A → Bool) (xs : List A) → T (every test xs) → All (λ (x : A). T (test x)) xs
+pub every-holds : {A : Type 0} (test : A → Bool) (xs : List A) → T (every test xs) → All (λ (x : A). T (test x)) xs
 unfolding every
 every-holds test [] t = tt
 every-holds test (x ∷ xs) t = (and-l (test x) (every test xs) t, every-holds test xs (and-r (test x) (every test xs) t))
 
 -- ---- rows
 
-all-firstOf : {A : Type 0} (P : A → Type 0) (at : ℕ → A) (n : ℕ) → ((i : ℕ) → i < n → P (at i)) → All P (firstOf at n)
+pub all-firstOf : {A : Type 0} (P : A → Type 0) (at : ℕ → A) (n : ℕ) → ((i : ℕ) → i < n → P (at i)) → All P (firstOf at n)
 unfolding firstOf
 all-firstOf P at zero f = tt
 all-firstOf P at (suc n) f = all-append P (firstOf at n) (at n ∷ []) (all-firstOf P at n (λ i h. f i (omega arith))) (f n (omega arith), tt)
 
-all-both : {A : Type 0} (P Q : A → Type 0) (xs : List A) → All P xs → All Q xs → All (λ (x : A). P x × Q x) xs
+pub all-both : {A : Type 0} (P Q : A → Type 0) (xs : List A) → All P xs → All Q xs → All (λ (x : A). P x × Q x) xs
 all-both P Q [] p q = tt
 all-both P Q (x ∷ xs) p q = ((p .0, q .0), all-both P Q xs (p .1) (q .1))
 
-all-take : {A : Type 0} (P : A → Type 0) (n : ℕ) (xs : List A) → All P xs → All P (take n xs)
-all-take P zero xs a = tt
-all-take P (suc n) [] a = tt
-all-take P (suc n) (x ∷ xs) a = (a .0, all-take P n xs (a .1))
-
-all-drop : {A : Type 0} (P : A → Type 0) (n : ℕ) (xs : List A) → All P xs → All P (drop n xs)
-all-drop P zero xs a = a
-all-drop P (suc n) [] a = tt
-all-drop P (suc n) (x ∷ xs) a = all-drop P n xs (a .1)
-
 -- a row that lies whole within the words has all its corners
-row-long : (corners i : ℕ) (words : List ℕ) → i < length words / suc corners → length (elementRow corners words i .corners) ≡ corners
+pub row-long : (corners i : ℕ) (words : List ℕ) → i < length words / suc corners → length (elementRow corners words i .corners) ≡ corners
 unfolding elementRow
 row-long corners i words h =
     let l : suc i * suc corners ≤ length words = le-div-iff-mul-le (zero-lt-suc corners) .0 h in
     simp (length-take, length-drop) (omega (arith, suc-mul i (suc corners), mul-comm (suc corners) i))
 
 -- numbers that were judged are below the count
-below : (n : ℕ) (xs : List ℕ) → T (every (goodNumber n) xs) → Below n xs
+pub below : (n : ℕ) (xs : List ℕ) → T (every (goodNumber n) xs) → Below n xs
 unfolding goodNumber
 below n xs t = all-map (λ x u. ltb→lt x n u) xs (every-holds (goodNumber n) xs t)
 
@@ -135,37 +127,15 @@ steps-below n steps t = all-map (λ s u. ltb→lt (s .vertex) n u) steps (every-
 
 -- ---- the whole mesh
 
--- of the counts that are within others, those that the elements need
-record Rooms (s t : Sizes) : Type 0 where
-  lines : s .lines ≤ t .lines
-  areas : s .areas ≤ t .areas
-  volumes : s .volumes ≤ t .volumes
-
-rooms : (s t : Sizes) → T (within s t) → Rooms s t
-unfolding within
-rooms s t h =
-    let vp = leb (s .vertices) (t .vertices) && leb (s .points) (t .points) in
-    let l = leb (s .lines) (t .lines) in
-    let a = leb (s .areas) (t .areas) in
-    let v = leb (s .volumes) (t .volumes) in
-    let c = leb (s .curves) (t .curves) in
-    let w = leb (s .«curve_vertices») (t .«curve_vertices») in
-    let h-v = and-l (vp && l && a && v) c (and-l (vp && l && a && v && c) w h) in
-    let h-a = and-l (vp && l && a) v h-v in
-    record {
-      lines = leb→le (s .lines) (t .lines) (and-r vp l (and-l (vp && l) a h-a));
-      areas = leb→le (s .areas) (t .areas) (and-r (vp && l) a h-a);
-      volumes = leb→le (s .volumes) (t .volumes) (and-r (vp && l && a) v h-v);
-    }
-
 -- what refusal 7 judges
-record Numbers (n : ℕ) (r : Rows) : Type 0 where
-  lines : T (every (λ (e : ElementRow). every (goodNumber n) (e .corners)) (r .lines))
-  areas : T (every (λ (e : ElementRow). every (goodNumber n) (e .corners)) (r .areas))
-  volumes : T (every (λ (e : ElementRow). every (goodNumber n) (e .corners)) (r .volumes))
-  steps : T (every (λ (s : StepRow). goodNumber n (s .vertex)) (r .curveVertices))
+pub record Numbers {F : Form} (n : ℕ) (r : RowsIn F) : Type 0 where
+  pub points : T (every (goodNumber n) (r .points))
+  pub lines : T (every (λ (e : ElementRow). every (goodNumber n) (e .corners)) (r .lines))
+  pub areas : T (every (λ (e : ElementRow). every (goodNumber n) (e .corners)) (r .areas))
+  pub volumes : T (every (λ (e : ElementRow). every (goodNumber n) (e .corners)) (r .volumes))
+  pub steps : T (every (λ (s : StepRow). goodNumber n (s .vertex)) (r .curveVertices))
 
-numbers : (n : ℕ) (r : Rows) → T (numbersHold n r) → Numbers n r
+pub numbers : {F : Form} (n : ℕ) (r : RowsIn F) → T (numbersHold n r) → Numbers n r
 unfolding numbersHold
 numbers n r h =
     let inside : ElementRow → Bool = λ e. every (goodNumber n) (e .corners) in
@@ -176,8 +146,10 @@ numbers n r h =
     let c = every (λ (s : StepRow). goodNumber n (s .vertex)) (r .curveVertices) in
     let h-v = and-l (p && l && a && v) c h in
     let h-a = and-l (p && l && a) v h-v in
+    let h-l = and-l (p && l) a h-a in
     record {
-      lines = and-r p l (and-l (p && l) a h-a);
+      points = and-l p l h-l;
+      lines = and-r p l h-l;
       areas = and-r (p && l) a h-a;
       volumes = and-r (p && l && a) v h-v;
       steps = and-r (p && l && a && v) c h;
@@ -194,12 +166,12 @@ volume-corners simplices = refl
 
 -- lists whose counts hold and whose numbers were judged
 judged :
-    (kind : Kind) (s : Sizes) (b : Bench) → T (within s (cells kind b)) → T (numbersHold (s .vertices) (rowsOf kind s b))
+    {F : Form} (kind : Kind) (s : Sizes) (b : BenchIn F) → T (within s (cells kind b)) → T (numbersHold (s .vertices) (rowsOf kind s b))
     → Well kind (s .vertices) (meshOf (rowsOf kind s b) .lists)
 unfolding cells rowsOf meshOf
 judged kind s b room good =
     let n = s .vertices in
-    let q = rooms s (cells kind b) room in
+    let q = within-facts s (cells kind b) (true-is _ room) in
     let g = numbers n (rowsOf kind s b) good in
     let steps = rowsOf kind s b .curveVertices in
     record {
@@ -210,12 +182,12 @@ judged kind s b room good =
     }
 
 -- the vertices are as many as are stated
-pub vertex-count : (kind : Kind) (s : Sizes) (b : Bench) → length (meshOf (rowsOf kind s b) .vertices) ≡ s .vertices
+pub vertex-count : {F : Form} (kind : Kind) (s : Sizes) (b : BenchIn F) → length (meshOf (rowsOf kind s b) .vertices) ≡ s .vertices
 unfolding rowsOf meshOf
 vertex-count kind s b = length-firstOf _ (s .vertices)
 
 pub accepted-well :
-    (kind : Kind) (s : Sizes) (d : Desk) (time : ℕ) → refinementVerdict kind s d time ≡ accepted
+    {F : Form} (kind : Kind) (s : Sizes) (d : DeskIn F) (time : ℕ) → refinementVerdict kind s d time ≡ accepted
     → let mesh = meshOf (rowsOf kind s (d .first)) in
     Well kind (length (mesh .vertices)) (mesh .lists)
 unfolding refinementVerdict handedIn countsHold

@@ -5,16 +5,14 @@ use mathlib.Core.List.{List, [], _∷_, _++_, map, flatMap, append-assoc, map-id
 use Prim.Native.Nat.{ℕ, zero, suc, _+_, _*_, _-_}
 use native.Mathlib.Omega.{arith}
 use native.Mathlib.Nat.{mul-suc, add-zero}
-use lib.Ieee.{Float}
 use lib.ListN.{length, getD, take, drop, length-append}
 use lib.Seq.{take-at, drop-at, getD-at, drop-drop, getD-append-add}
-use Rattle.numbers.specs.Binary32 as Binary32
 use Rattle.geom.specs.declared.parity.Parity.{Parity}
 use Rattle.geom.specs.declared.parity.Parity.the-variants.{Even, Odd}
-use Rattle.geom.specs.declared.vertex.Vertex.{Vertex}
 use Rattle.geom.specs.Elements.{Element, Curve}
+use Rattle.geom.specs.Form.{Form}
 use Rattle.geom.specs.Mesh.{curveVertices}
-use Rattle.geom.specs.Memory.{ElementRow, CurveRow, StepRow, firstOf, vertexRow, elementRow, curveRow, stepRow, parityOf, elementOf, stepWords, curvesOf, parityWord, elementWords, stepsWords, curveWords, vertexWords}
+use Rattle.geom.specs.Memory.{ElementRow, CurveRow, StepRow, firstOf, fourRow, vertexRowIn, positionWordsIn, markWordsIn, elementRow, curveRow, stepRow, parityOf, elementOf, stepWords, curvesOf, parityWord, elementWords, stepsWords, curveWords, vertexWords}
 use Rattle.geom.specs.Refusals.{curveLengths}
 use Rattle.geom.proofs.Lists.{All, all-each}
 use Rattle.geom.proofs.Rows.{firstOf-same, firstOf-cons, flatMap-append}
@@ -128,57 +126,51 @@ points-back ps rest =
 
 -- ---- vertices
 
--- the words of one vertex, as the bench of a mesh has them
-abbrev pub positionWords : Vertex → List Float
-positionWords v = v .position .x ∷ v .position .y ∷ v .position .z ∷ v .position .w ∷ []
+module _ (F : Form) where
+  -- the two slices of vertices
+  record Slices : Type 0 where
+    positions : List (F .Coordinate)
+    marks : List ℕ
 
-abbrev pub markWords : Vertex → List ℕ
-markWords v = v .flags ∷ v .tag ∷ v .k ∷ []
+  abbrev pushVertex : F .Vertex → Slices → Slices
+  pushVertex v s = record { positions = positionWordsIn F v ++ s .positions; marks = markWordsIn F v ++ s .marks }
 
--- the two slices of vertices
-record Slices : Type 0 where
-  positions : List Float
-  marks : List ℕ
+  vertex-next : (v : F .Vertex) (s : Slices) (i : ℕ)
+      → vertexRowIn F (pushVertex v s .positions) (pushVertex v s .marks) (suc i) ≡ vertexRowIn F (s .positions) (s .marks) i
+  unfolding vertexRowIn fourRow
+  vertex-next v s i =
+      let f = positionWordsIn F v in
+      let m = markWordsIn F v in
+      λ j.
+      F .vertex
+      (F .points .four
+      (past-first f (s .positions) 4 i (F .points .zero) refl j)
+      (past f (s .positions) 4 i (4 * suc i + 1) 1 (F .points .zero) refl refl j)
+      (past f (s .positions) 4 i (4 * suc i + 2) 2 (F .points .zero) refl refl j)
+      (past f (s .positions) 4 i (4 * suc i + 3) 3 (F .points .zero) refl refl j))
+      (past-first m (s .marks) 3 i 0 refl j)
+      (past m (s .marks) 3 i (3 * suc i + 1) 1 0 refl refl j)
+      (past m (s .marks) 3 i (3 * suc i + 2) 2 0 refl refl j)
 
-abbrev pushVertex : Vertex → Slices → Slices
-pushVertex v s = record { positions = positionWords v ++ s .positions; marks = markWords v ++ s .marks }
+  pub vertices-back :
+      (vs : List (F .Vertex)) (coordinates : List (F .Coordinate)) (words : List ℕ)
+      → firstOf (vertexRowIn F (flatMap (positionWordsIn F) vs ++ coordinates) (flatMap (markWordsIn F) vs ++ words)) (length vs) ≡ vs
+  unfolding flatMap vertexRowIn fourRow
+  vertices-back vs coordinates words =
+      let s : Slices = record { positions = coordinates; marks = words } in
+      ap (λ (w : Slices). firstOf (vertexRowIn F (w .positions) (w .marks)) (length vs)) (sym (both vs))
+      ∙ rows-back (λ (w : Slices) (i : ℕ). vertexRowIn F (w .positions) (w .marks) i) pushVertex (λ (v : F .Vertex). v) (λ (v : F .Vertex). Unit {0})
+      (λ v w u. vertex-first v w) (λ v w i u. vertex-next v w i) vs s (all-each (λ (v : F .Vertex). tt) vs)
+      ∙ map-id vs
+    where
+      vertex-first : (v : F .Vertex) (s : Slices) → vertexRowIn F (pushVertex v s .positions) (pushVertex v s .marks) 0 ≡ v
+      vertex-first v s =
+          ap (λ (p : F .Point). F .vertex p (F .flags v) (F .tag v) (F .k v)) (F .points .own (F .position v)) ∙ F .whole v
 
-vertex-next : (v : Vertex) (s : Slices) (i : ℕ) → vertexRow (pushVertex v s .positions) (pushVertex v s .marks) (suc i) ≡ vertexRow (s .positions) (s .marks) i
-unfolding vertexRow
-vertex-next v s i =
-    let f = positionWords v in
-    let m = markWords v in
-    λ j. record {
-      position =
-          record {
-            x = past-first f (s .positions) 4 i Binary32.zero refl j;
-            y = past f (s .positions) 4 i (4 * suc i + 1) 1 Binary32.zero refl refl j;
-            z = past f (s .positions) 4 i (4 * suc i + 2) 2 Binary32.zero refl refl j;
-            w = past f (s .positions) 4 i (4 * suc i + 3) 3 Binary32.zero refl refl j;
-          };
-      flags = past-first m (s .marks) 3 i 0 refl j;
-      tag = past m (s .marks) 3 i (3 * suc i + 1) 1 0 refl refl j;
-      k = past m (s .marks) 3 i (3 * suc i + 2) 2 0 refl refl j;
-    }
-
-pub vertices-back :
-    (vs : List Vertex) (floats : List Float) (words : List ℕ)
-    → firstOf (vertexRow (flatMap positionWords vs ++ floats) (flatMap markWords vs ++ words)) (length vs) ≡ vs
-unfolding flatMap vertexRow
-vertices-back vs floats words =
-    let s : Slices = record { positions = floats; marks = words } in
-    ap (λ (w : Slices). firstOf (vertexRow (w .positions) (w .marks)) (length vs)) (sym (both vs))
-    ∙ rows-back (λ (w : Slices) (i : ℕ). vertexRow (w .positions) (w .marks) i) pushVertex (λ (v : Vertex). v) (λ (v : Vertex). Unit {0})
-    (λ v w u. vertex-first v w) (λ v w i u. vertex-next v w i) vs s (all-each (λ (v : Vertex). tt) vs)
-    ∙ map-id vs
-  where
-    vertex-first : (v : Vertex) (s : Slices) → vertexRow (pushVertex v s .positions) (pushVertex v s .marks) 0 ≡ v
-    vertex-first v s = refl
-
-    both : (xs : List Vertex) → pushed pushVertex xs (record { positions = floats; marks = words })
-        ≡ record { positions = flatMap positionWords xs ++ floats; marks = flatMap markWords xs ++ words }
-    both [] = refl
-    both (x ∷ xs) = ap (pushVertex x) (both xs)
+      both : (xs : List (F .Vertex)) → pushed pushVertex xs (record { positions = coordinates; marks = words })
+          ≡ record { positions = flatMap (positionWordsIn F) xs ++ coordinates; marks = flatMap (markWordsIn F) xs ++ words }
+      both [] = refl
+      both (x ∷ xs) = ap (pushVertex x) (both xs)
 
 -- ---- curves
 

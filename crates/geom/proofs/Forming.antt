@@ -9,68 +9,68 @@ use lib.Bits.{and-le-l}
 use lib.Dec.{T, eqb, leb→le, le→leb}
 use lib.ListN.{length, take, drop, length-map}
 use Rattle.geom.specs.declared.parity.Parity.{Parity}
-use Rattle.geom.specs.declared.vertex.Vertex.{Vertex}
-use Rattle.numbers.specs.Binary32 as Binary32
-use Rattle.numbers.specs.Points4 as Points4
 use Rattle.geom.specs.Book.{Kind, cubes, simplices, Pair, Book, seek, bookOr, each, place, mids}
 use Rattle.geom.specs.Elements.{Curve, Lists}
 use Rattle.geom.specs.Ledger.{faceShape, volumeShape}
 use Rattle.geom.specs.Rules.{steps, between, doubled, curveFrom, curve, passBy, Went}
 use Rattle.geom.specs.Passes.{pass}
-use Rattle.geom.specs.Vertices.{midpointVertex, pairVertex, vertexAt}
-use Rattle.geom.specs.Smoothing.{Gathered, moved, settled, settledFrom, smoothed, withMidpoints, gathered}
+use Rattle.geom.specs.Form.{Form}
+use Rattle.geom.specs.Vertices.{midpointIn, pairIn, vertexIn}
+use Rattle.geom.specs.Smoothing.{GatheredIn, movedIn, settledIn, settledFromIn, smoothedIn, withMidpointsIn, gatheredIn}
 use Rattle.geom.specs.Memory.{CurveRow, StepRow, stepWords, curvesOf, parityOf, areaCorners, volumeCorners}
 use Rattle.geom.specs.Refusals.{goodFlags}
-use Rattle.geom.specs.Refinement.{State, passOver}
+use Rattle.geom.specs.Refinement.{StateIn, passOver}
 use Rattle.geom.proofs.Lists.{All, all-map, all-append, all-of-map, all-each, true-is}
 use Rattle.geom.proofs.Back.{Stepped}
 use Rattle.geom.proofs.Left.{went}
 use Rattle.geom.proofs.Well.{Proper, IsArea, IsVolume, Good, pass-is, pass-good}
-use Rattle.geom.proofs.Standing.{Flagged, Formed}
+use Rattle.geom.proofs.Standing.{FlaggedIn, Formed}
 
 -- ---- flags
-
-flags-below : (v : Vertex) → Flagged v → v .flags ≤ 15
-unfolding goodFlags
-flags-below v e = leb→le (v .flags) 15 (subst T (sym e) tt)
 
 below-flags : (n : ℕ) → n ≤ 15 → goodFlags n ≡ true
 unfolding goodFlags
 below-flags n l = true-is _ (le→leb n 15 l)
 
-some-flagged : (vs : List Vertex) (i : ℕ) → All Flagged vs → Flagged (vertexAt vs i)
+flags-below : (n : ℕ) → goodFlags n ≡ true → n ≤ 15
 unfolding goodFlags
-some-flagged [] i a = refl
-some-flagged (v ∷ vs) zero a = a .0
-some-flagged (v ∷ vs) (suc i) a = some-flagged vs i (a .1)
+flags-below n e = leb→le n 15 (subst T (sym e) tt)
 
--- a midpoint's flags are those that both ends have
-pair-flagged : (vs : List Vertex) (q : Pair) → All Flagged vs → Flagged (pairVertex vs q)
-unfolding pairVertex midpointVertex
-pair-flagged vs q a =
-    let x = vertexAt vs (q .first) in
-    let y = vertexAt vs (q .second) in
-    below-flags _ (omega (arith, and-le-l (x .flags) (y .flags), flags-below x (some-flagged vs (q .first) a)))
+module _ (F : Form) where
+  some-flagged : (vs : List (F .Vertex)) (i : ℕ) → All (FlaggedIn F) vs → FlaggedIn F (vertexIn F vs i)
+  some-flagged [] i a = ap goodFlags (F .parts-of (F .origin) 0 0 0 .1) ∙ below-flags 0 (omega arith)
+  some-flagged (v ∷ vs) zero a = a .0
+  some-flagged (v ∷ vs) (suc i) a = some-flagged vs i (a .1)
 
--- smoothing leaves flags alone
-settled-flagged : (time : Bool) (v : Vertex) (g : Gathered) → Flagged v → Flagged (settled time v g)
-unfolding settled
-settled-flagged time v g a = go (eqb (g .count) 0)
-  where
-    go : (b : Bool) → Flagged (cond b v (record { position = moved time v (Points4.quotient (g .sum) (Binary32.count (g .count))); flags = v .flags; tag = v .tag; k = v .k }))
-    go true = a
-    go false = a
+  -- a midpoint's flags are those that both ends have
+  pair-flagged : (vs : List (F .Vertex)) (q : Pair) → All (FlaggedIn F) vs → FlaggedIn F (pairIn F vs q)
+  unfolding pairIn midpointIn
+  pair-flagged vs q a =
+      let x = vertexIn F vs (q .first) in
+      let y = vertexIn F vs (q .second) in
+      ap goodFlags (F .parts-of _ _ _ _ .1)
+      ∙ below-flags _ (omega (arith, and-le-l (F .flags x) (F .flags y), flags-below (F .flags x) (some-flagged vs (q .first) a)))
 
-pub flags-kept :
-    (kind : Kind) (time : Bool) (l : Lists) (vs : List Vertex) (new : Book) → All Flagged vs → All Flagged (smoothed kind time l (withMidpoints vs new))
-unfolding smoothed settledFrom withMidpoints
-flags-kept kind time l vs new a =
-    let all = withMidpoints vs new in
-    go all 0 all (all-append Flagged vs (map (pairVertex vs) new) a (all-of-map Flagged (pairVertex vs) new (all-each (λ (q : Pair). pair-flagged vs q a) new)))
-  where
-    go : (us : List Vertex) (n : ℕ) (xs : List Vertex) → All Flagged xs → All Flagged (settledFrom kind time l us n xs)
-    go us n [] f = tt
-    go us n (x ∷ xs) f = (settled-flagged time x (gathered kind l us n) (f .0), go us (suc n) xs (f .1))
+  -- smoothing leaves flags alone
+  settled-flagged : (time : Bool) (v : F .Vertex) (g : GatheredIn F) → FlaggedIn F v → FlaggedIn F (settledIn F time v g)
+  unfolding settledIn
+  settled-flagged time v g a = go (eqb (g .count) 0)
+    where
+      go : (b : Bool) → FlaggedIn F (cond b v (F .vertex (movedIn F time v (F .mean (g .sum) (g .count))) (F .flags v) (F .tag v) (F .k v)))
+      go true = a
+      go false = ap goodFlags (F .parts-of _ _ _ _ .1) ∙ a
+
+  pub flags-kept :
+      (kind : Kind) (time : Bool) (l : Lists) (vs : List (F .Vertex)) (new : Book) → All (FlaggedIn F) vs
+      → All (FlaggedIn F) (smoothedIn F kind time l (withMidpointsIn F vs new))
+  unfolding smoothedIn settledFromIn withMidpointsIn
+  flags-kept kind time l vs new a =
+      let all = withMidpointsIn F vs new in
+      go all 0 all (all-append (FlaggedIn F) vs (map (pairIn F vs) new) a (all-of-map (FlaggedIn F) (pairIn F vs) new (all-each (λ (q : Pair). pair-flagged vs q a) new)))
+    where
+      go : (us : List (F .Vertex)) (n : ℕ) (xs : List (F .Vertex)) → All (FlaggedIn F) xs → All (FlaggedIn F) (settledFromIn F kind time l us n xs)
+      go us n [] f = tt
+      go us n (x ∷ xs) f = (settled-flagged time x (gatheredIn F kind l us n) (f .0), go us (suc n) xs (f .1))
 
 -- ---- a curve's parities
 
@@ -145,15 +145,15 @@ volume-corners cubes = refl
 volume-corners simplices = refl
 
 pub formed :
-    (kind : Kind) (time : Bool) (base : ℕ) (s : State) → Good kind base (went s) → All Flagged (s .mesh .vertices) → All Stepped (s .mesh .lists .curves)
+    {F : Form} (kind : Kind) (time : Bool) (base : ℕ) (s : StateIn F) → Good kind base (went s) → All (FlaggedIn F) (s .mesh .vertices) → All Stepped (s .mesh .lists .curves)
     → Formed kind (passOver kind time base s .mesh)
 unfolding passOver passBy
-formed kind time base s good flags curves =
+formed {F} kind time base s good flags curves =
     let w = pass-good kind base (went s) good .well in
     let after = pass kind base (went s) .lists in
     let n = base + length (pass kind base (went s) .book) in
     record {
-      flags = flags-kept kind time _ (s .mesh .vertices) _ flags;
+      flags = flags-kept F kind time _ (s .mesh .vertices) _ flags;
       lines = all-map (λ x (p : Proper n 2 x). p .long) (after .lines) (w .lines);
       areas = all-map (λ x (p : IsArea kind n x). p .long ∙ face-corners kind) (after .areas) (w .areas);
       volumes = all-map (λ x (p : IsVolume kind n x). p .long ∙ volume-corners kind) (after .volumes) (w .volumes);

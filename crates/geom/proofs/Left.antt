@@ -7,28 +7,29 @@ use lib.ListN.{length}
 use Rattle.geom.specs.Book.{Kind}
 use Rattle.geom.specs.Rules.{Went}
 use Rattle.geom.specs.Passes.{pass, passes, listsAfter, bookAfter}
-use Rattle.geom.specs.Mesh.{Mesh}
-use Rattle.geom.specs.Refinement.{State, passOver, stateAfter, Lent, fits, Run, runFrom, run}
+use Rattle.geom.specs.Form.{Form}
+use Rattle.geom.specs.Mesh.{MeshIn}
+use Rattle.geom.specs.Refinement.{StateIn, passOver, stateAfter, Lent, fits, RunIn, runFrom, run}
 
 -- the lists and the book of a state
-abbrev pub went : State → Went
+abbrev pub went : {F : Form} → StateIn F → Went
 went s = record { lists = s .mesh .lists; book = s .book }
 
 -- n passes over a mesh are n passes over its lists
-pub went-after : (kind : Kind) (time : Bool) (mesh : Mesh) (n : ℕ)
+pub went-after : {F : Form} (kind : Kind) (time : Bool) (mesh : MeshIn F) (n : ℕ)
     → went (stateAfter kind time mesh n) ≡ passes kind (length (mesh .vertices)) (mesh .lists) n
 unfolding stateAfter passes passOver
 went-after kind time mesh zero = refl
 went-after kind time mesh (suc n) = ap (pass kind (length (mesh .vertices))) (went-after kind time mesh n)
 
 -- which of two runs a test takes makes no difference to that
-either : (after : ℕ → State) (b : Bool) (x y : Run) → x .left ≡ after (x .passes) → y .left ≡ after (y .passes)
+either : {F : Form} (after : ℕ → StateIn F) (b : Bool) (x y : RunIn F) → x .left ≡ after (x .passes) → y .left ≡ after (y .passes)
     → cond b x y .left ≡ after (cond b x y .passes)
 either after true x y p q = p
 either after false x y p q = q
 
 -- a run that goes on after n passes leaves the state after the passes that it counts
-run-on : (kind : Kind) (time : Bool) (lent : Lent) (mesh : Mesh) (depth n : ℕ)
+run-on : {F : Form} (kind : Kind) (time : Bool) (lent : Lent) (mesh : MeshIn F) (depth n : ℕ)
     → let r = runFrom kind time lent (length (mesh .vertices)) depth n (stateAfter kind time mesh n) in
     r .left ≡ stateAfter kind time mesh (r .passes)
 unfolding runFrom stateAfter
@@ -38,14 +39,14 @@ run-on kind time lent mesh (suc depth) n =
     (run-on kind time lent mesh depth (suc n)) refl
 
 -- the mesh left is the mesh after the passes counted
-pub run-left : (kind : Kind) (time : Bool) (lent : Lent) (depth : ℕ) (mesh : Mesh)
+pub run-left : {F : Form} (kind : Kind) (time : Bool) (lent : Lent) (depth : ℕ) (mesh : MeshIn F)
     → let r = run kind time lent depth mesh in
     r .left ≡ stateAfter kind time mesh (r .passes)
 unfolding run stateAfter
 run-left kind time lent depth mesh = run-on kind time lent mesh depth 0
 
 -- its lists and its book are those that so many passes make from the lists handed in
-pub run-lists : (kind : Kind) (time : Bool) (lent : Lent) (depth : ℕ) (mesh : Mesh)
+pub run-lists : {F : Form} (kind : Kind) (time : Bool) (lent : Lent) (depth : ℕ) (mesh : MeshIn F)
     → let r = run kind time lent depth mesh in
     (r .left .mesh .lists ≡ listsAfter kind (length (mesh .vertices)) (mesh .lists) (r .passes))
     × (r .left .book ≡ bookAfter kind (length (mesh .vertices)) (mesh .lists) (r .passes))

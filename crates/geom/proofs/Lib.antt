@@ -3,6 +3,7 @@ pub mod Marked
 -- Demand 3 over the definitions, from the ground up; the claims for any number of passes are in Demand3,
 pub mod Lists
 pub mod Rows
+pub mod Within
 pub mod Stated
 pub mod Integers
 pub mod Sums
@@ -26,3 +27,16 @@ pub mod Refined
 pub mod Back
 pub mod Standing
 pub mod Forming
+-- The file: what is written reads back (Reread, for every accepted mesh in Storing), what is read and written has its old bytes (Unread), and how long it is (Spans).
+pub mod Reread
+pub mod Storing
+pub mod Unread
+pub mod Spans
+-- What every pass keeps, over any form; what the refinement keeps of every accepted mesh;
+pub mod Steady
+pub mod Pinned
+pub mod Apart
+pub mod Again
+pub mod Kept
+-- and that binary32 is such a form.
+pub mod Stays

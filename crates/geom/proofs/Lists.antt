@@ -6,7 +6,7 @@ use mathlib.Core.List.{List, [], _∷_, _++_, map}
 use Prim.Native.Nat.{ℕ, zero, suc, _<_}
 use native.Mathlib.Omega.{arith}
 use lib.Dec.{T, eqb, eqb→eq, eqb-refl, ltb, ltb→lt}
-use lib.ListN.{length}
+use lib.ListN.{length, take, drop}
 use Rattle.geom.specs.Elements.{pointAt, pick}
 use Rattle.geom.specs.Ledger.{sameList}
 
@@ -36,6 +36,16 @@ all-under-map P f (x ∷ xs) a = (a .0, all-under-map P f xs (a .1))
 pub all-each : {A : Type 0} {P : A → Type 0} → ((x : A) → P x) → (xs : List A) → All P xs
 all-each f [] = tt
 all-each f (x ∷ xs) = (f x, all-each f xs)
+
+pub all-take : {A : Type 0} (P : A → Type 0) (n : ℕ) (xs : List A) → All P xs → All P (take n xs)
+all-take P zero xs a = tt
+all-take P (suc n) [] a = tt
+all-take P (suc n) (x ∷ xs) a = (a .0, all-take P n xs (a .1))
+
+pub all-drop : {A : Type 0} (P : A → Type 0) (n : ℕ) (xs : List A) → All P xs → All P (drop n xs)
+all-drop P zero xs a = a
+all-drop P (suc n) [] a = tt
+all-drop P (suc n) (x ∷ xs) a = all-drop P n xs (a .1)
 
 -- the entry at a place, or 0 past the end
 pub all-at : (n : ℕ) (xs : List ℕ) → zero < n → All (λ (x : ℕ). x < n) xs → (i : ℕ) → pointAt xs i < n

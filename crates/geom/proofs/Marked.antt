@@ -99,7 +99,7 @@ bits = Ieee.toBits binary32
 
 -- refined with every list lent to the limit, without smooth_time
 pub refined : Kind → ℕ → Mesh → Run
-unfolding Points4.sum Points4.scaled Points4.quotient Points4.midpoint Points4.origin Points4.added Points4.mean Points4.columns Book.find Book.seek Book.midpoint Book.each Book.place Book.mids Elements.pick Elements.pairsOf Elements.shut Elements.flat Elements.pieces Elements.assemble Rules.line Rules.divide Rules.steps Rules.between Rules.curve Rules.passBy Simplices.triangle Simplices.simplexPass Cubes.square Cubes.cube Cubes.cubePass Vertices.flagged Vertices.midpointVertex Vertices.pairVertex Mesh.curveVertices Mesh.sizesOf Smoothing.withMidpoints Smoothing.columnRule Smoothing.nothing Smoothing.ignored Smoothing.update Smoothing.toCorners Smoothing.gather Smoothing.gathered Smoothing.replaced Smoothing.moved Smoothing.settled Smoothing.settledFrom Smoothing.smoothed Refinement.passOver Refinement.fits Refinement.runFrom Refinement.run
+unfolding Points4.sum Points4.scaled Points4.quotient Points4.midpoint Points4.origin Points4.added Points4.mean Points4.columns Book.find Book.seek Book.midpoint Book.each Book.place Book.mids Elements.pick Elements.pairsOf Elements.shut Elements.flat Elements.pieces Elements.assemble Rules.line Rules.divide Rules.steps Rules.between Rules.curve Rules.passBy Simplices.triangle Simplices.simplexPass Cubes.square Cubes.cube Cubes.cubePass Vertices.flagged Vertices.midpointIn Vertices.pairIn Mesh.curveVertices Mesh.sizesOf Smoothing.withMidpointsIn Smoothing.columnRule Smoothing.nothing Smoothing.ignored Smoothing.update Smoothing.toCorners Smoothing.gather Smoothing.gatheredIn Smoothing.replaced Smoothing.movedIn Smoothing.settledIn Smoothing.settledFromIn Smoothing.smoothedIn Refinement.passOver Refinement.fits Refinement.runFrom Refinement.run
 refined kind depth m = Refinement.run kind false (record { cells = LIMITS; book = LIMIT }) depth m
 
 abbrev after : Kind → ℕ → Mesh → Mesh
@@ -172,14 +172,15 @@ bench x flags point curveCount =
       curveVertices = [];
     }
 
--- The refusal of a refinement, by a vertex's x and flag byte, a point, and the vertex count of a curve where no curve vertex is handed in.
-pub refusalOf : ℕ → ℕ → ℕ → ℕ → ℕ
-unfolding Refinement.within Answers.firstDue Memory.cells Memory.firstOf Memory.vertexRow Memory.curveRow Memory.rowsOf Memory.stepWords Memory.curveParts Refusals.every Refusals.goodPosition Refusals.goodCurve Refusals.curveLengths Refusals.countsHold Refusals.marksHold Refusals.positionsHold Refusals.numbersHold Refusals.handedIn Refusals.benchesEqual Refusals.benchesHold Refusals.refinementVerdict
-refusalOf x flags point curveCount =
+-- The refusal of a refinement, 0 for none, by a vertex's x and flag byte, a point, how many curves there are, and the vertex count of the first where no curve
+-- vertex is handed in.
+pub refusalOf : ℕ → ℕ → ℕ → ℕ → ℕ → ℕ
+unfolding Refinement.within Answers.firstDue Memory.cells Memory.firstOf Memory.vertexRowIn Memory.fourRow Memory.curveRow Memory.rowsOf Memory.stepWords Memory.curveParts Refusals.every Refusals.goodPositionIn Refusals.goodCurve Refusals.curveLengths Refusals.countsHold Refusals.marksHold Refusals.positionsHold Refusals.numbersHold Refusals.handedIn Refusals.benchesEqual Refusals.benchesHold Refusals.refinementVerdict
+refusalOf x flags point curves curveCount =
     let b = bench x flags point curveCount in
     numberOf
     (Refusals.refinementVerdict cubes
-    (record { vertices = 1; points = 1; lines = 0; areas = 0; volumes = 0; curves = 1; «curve_vertices» = 0 })
+    (record { vertices = 1; points = 1; lines = 0; areas = 0; volumes = 0; curves = curves; «curve_vertices» = 0 })
     (record { first = b; second = b; book = []; sums = replicate 4 (count 0); tallies = replicate 2 0 })
     0)
 
@@ -266,16 +267,17 @@ cases =
     ∷ (0 ∷ 10 ∷ [])
     ∷ (0 ∷ 10 ∷ [])
     ∷ [])
-    -- In memory: 9, 5, 6, 7, 8.
+    -- In memory: 9, 5, 6, 7, 8; and a mesh that is accepted.
     ∷ case
-    ((refusalOf 1025 16 1 1
-    ∷ refusalOf 1025 16 1 0
-    ∷ refusalOf 1025 15 1 0
-    ∷ refusalOf 1024 15 1 0
-    ∷ refusalOf 1024 15 0 0
+    ((refusalOf 1025 16 1 1 1
+    ∷ refusalOf 1025 16 1 1 0
+    ∷ refusalOf 1025 15 1 1 0
+    ∷ refusalOf 1024 15 1 1 0
+    ∷ refusalOf 1024 15 0 1 0
+    ∷ refusalOf 1024 15 0 0 0
     ∷ [])
     ∷ [])
-    ((9 ∷ 5 ∷ 6 ∷ 7 ∷ 8 ∷ []) ∷ [])
+    ((9 ∷ 5 ∷ 6 ∷ 7 ∷ 8 ∷ 0 ∷ []) ∷ [])
     -- Section 8: depth 1, smooth_time 0, and the file.
     ∷ case (sheetOf (1 ∷ 0 ∷ fileBytes cubes example) ∷ []) (printed ∷ [])
     ∷ []

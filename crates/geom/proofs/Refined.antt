@@ -12,25 +12,26 @@ use Rattle.geom.specs.Book.{Kind, simplices}
 use Rattle.geom.specs.Elements.{Lists}
 use Rattle.geom.specs.Passes.{listsAfter}
 use Rattle.geom.specs.Ledger.{ledger, refined, Closed}
-use Rattle.geom.specs.Mesh.{Mesh}
+use Rattle.geom.specs.Form.{Form}
+use Rattle.geom.specs.Mesh.{MeshIn}
 use Rattle.geom.specs.Answers.{accepted}
-use Rattle.geom.specs.Refinement.{Run, run}
+use Rattle.geom.specs.Refinement.{RunIn, run}
 use Rattle.geom.specs.Memory.{rowsOf, meshOf}
-use Rattle.geom.specs.Refusals.{Desk, lentBy, refinementVerdict}
+use Rattle.geom.specs.Refusals.{DeskIn, lentBy, refinementVerdict}
 use Rattle.geom.proofs.Left.{run-lists}
 use Rattle.geom.proofs.Accepted.{accepted-well}
 use Rattle.geom.proofs.Demand3 as Demand3
 
 -- the mesh that the words on the first bench stand for, and what the refinement makes of it
-abbrev pub original : Kind → Sizes → Desk → Mesh
+abbrev pub original : {F : Form} → Kind → Sizes → DeskIn F → MeshIn F
 original kind s d = meshOf (rowsOf kind s (d .first))
 
-abbrev pub runOf : Kind → Sizes → Desk → ℕ → ℕ → Run
+abbrev pub runOf : {F : Form} → Kind → Sizes → DeskIn F → ℕ → ℕ → RunIn F
 runOf kind s d depth time = run kind (eqb time 1) (lentBy kind d) depth (original kind s d)
 
 -- the lists left are those after the passes counted
 left-lists :
-    (kind : Kind) (s : Sizes) (d : Desk) (depth time : ℕ)
+    {F : Form} (kind : Kind) (s : Sizes) (d : DeskIn F) (depth time : ℕ)
     → let mesh = original kind s d in
     let r = runOf kind s d depth time in
     r .left .mesh .lists ≡ listsAfter kind (length (mesh .vertices)) (mesh .lists) (r .passes)
@@ -38,7 +39,7 @@ left-lists kind s d depth time = run-lists kind (eqb time 1) (lentBy kind d) dep
 
 -- 1. The ledger of the mesh left equals, entry for entry, the original's ledger put n times through the refinement of faces, n being the whole passes.
 pub ledger-left :
-    (kind : Kind) (s : Sizes) (d : Desk) (depth time : ℕ) → refinementVerdict kind s d time ≡ accepted
+    {F : Form} (kind : Kind) (s : Sizes) (d : DeskIn F) (depth time : ℕ) → refinementVerdict kind s d time ≡ accepted
     → let mesh = original kind s d in
     let r = runOf kind s d depth time in
     (t : List ℕ)
@@ -50,7 +51,7 @@ ledger-left kind s d depth time e t =
 
 -- 2. The mesh left is closed exactly when the original is, cubes and tetrahedra alike.
 pub closed-left :
-    (kind : Kind) (s : Sizes) (d : Desk) (depth time : ℕ) → refinementVerdict kind s d time ≡ accepted
+    {F : Form} (kind : Kind) (s : Sizes) (d : DeskIn F) (depth time : ℕ) → refinementVerdict kind s d time ≡ accepted
     → Closed (ledger kind (original kind s d .lists .volumes)) ↔ Closed (ledger kind (runOf kind s d depth time .left .mesh .lists .volumes))
 closed-left kind s d depth time e =
     let mesh = original kind s d in
@@ -59,7 +60,7 @@ closed-left kind s d depth time e =
 -- 3. Two accepted simplex meshes with equally many whole passes, left with equal triangles and equal tetrahedra (numbers, parities and order), went in with
 -- equal ones.
 pub recovered-from-left :
-    (s₁ s₂ : Sizes) (d₁ d₂ : Desk) (depth₁ depth₂ time₁ time₂ : ℕ)
+    {F G : Form} (s₁ s₂ : Sizes) (d₁ : DeskIn F) (d₂ : DeskIn G) (depth₁ depth₂ time₁ time₂ : ℕ)
     → refinementVerdict simplices s₁ d₁ time₁ ≡ accepted → refinementVerdict simplices s₂ d₂ time₂ ≡ accepted
     → let r₁ = runOf simplices s₁ d₁ depth₁ time₁ in
     let r₂ = runOf simplices s₂ d₂ depth₂ time₂ in

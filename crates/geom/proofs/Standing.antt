@@ -3,17 +3,18 @@
 use mathlib.Core.Path.{_≡_, refl, _∙_, ap, ap₂}
 use mathlib.Core.Bool.{Bool, true, _&&_}
 use mathlib.Core.List.{List, [], _∷_, _++_, map, flatMap}
-use Prim.Native.Nat.{ℕ, _+_, _-_}
+use Prim.Native.Nat.{ℕ}
 use lib.Dec.{eqb}
 use lib.ListN.{length, getD, take, drop}
 use lib.Seq.{take-at, drop-at}
 use Rattle.geom.specs.declared.parity.Parity.{Parity}
 use Rattle.geom.specs.declared.parity.Parity.the-variants.{Even, Odd}
 use Rattle.geom.specs.declared.vertex.Vertex.{Vertex}
+use Rattle.geom.specs.Form.{Form}
 use Rattle.geom.specs.Book.{Kind}
 use Rattle.geom.specs.Elements.{Element, Curve}
-use Rattle.geom.specs.Mesh.{Mesh, curveVertices, sizesOf}
-use Rattle.geom.specs.Memory.{Bench, Rows, StepRow, ElementRow, areaCorners, volumeCorners, cells, firstOf, vertexRow, elementRow, curveRow, stepRow, rowsOf, stepWords, curveParts, parityWord, meshOf, elementWords, curveWords, vertexWords, benchOf, over}
+use Rattle.geom.specs.Mesh.{MeshIn, curveVertices, sizesOf}
+use Rattle.geom.specs.Memory.{BenchIn, RowsIn, StepRow, ElementRow, areaCorners, volumeCorners, cells, firstOf, vertexRowIn, elementRow, curveRow, stepRow, rowsOf, stepWords, curveParts, parityWord, meshOf, elementWords, curveWords, vertexWords, benchOf, over}
 use Rattle.geom.specs.Refinement.{within}
 use Rattle.geom.specs.Refusals.{every, goodFlags, goodParity, curveLengths, countsHold, marksHold, StandsFor}
 use Rattle.geom.proofs.Lists.{All, eqb-same}
@@ -31,7 +32,7 @@ unfolding over
 over-begins old out e = record { rest = drop (length out) old; is = e }
 
 -- the slices of a bench begin with the words of a mesh
-pub record Laid (m : Mesh) (b : Bench) : Type 0 where
+pub record Laid {F : Form} (m : MeshIn F) (b : BenchIn F) : Type 0 where
   pub positions : Begins (b .positions) (benchOf m .positions)
   pub marks : Begins (b .marks) (benchOf m .marks)
   pub points : Begins (b .points) (benchOf m .points)
@@ -44,12 +45,12 @@ pub record Laid (m : Mesh) (b : Bench) : Type 0 where
 abbrev pub Cornered : ℕ → Element → Type 0
 Cornered k e = length (e .corners) ≡ k
 
-abbrev pub Flagged : Vertex → Type 0
-Flagged v = goodFlags (v .flags) ≡ true
+abbrev pub FlaggedIn : (F : Form) → F .Vertex → Type 0
+FlaggedIn F v = goodFlags (F .flags v) ≡ true
 
 -- flags of four bits, elements with their kind's number of corners, curves with one parity fewer than vertices
-pub record Formed (kind : Kind) (m : Mesh) : Type 0 where
-  pub flags : All Flagged (m .vertices)
+pub record Formed {F : Form} (kind : Kind) (m : MeshIn F) : Type 0 where
+  pub flags : All (FlaggedIn F) (m .vertices)
   pub lines : All (Cornered 2) (m .lists .lines)
   pub areas : All (Cornered (areaCorners kind)) (m .lists .areas)
   pub volumes : All (Cornered (volumeCorners kind)) (m .lists .volumes)
@@ -58,7 +59,7 @@ pub record Formed (kind : Kind) (m : Mesh) : Type 0 where
 -- ---- what is read back
 
 -- the rows of a mesh
-abbrev rowsFor : Mesh → Rows
+abbrev rowsFor : {F : Form} → MeshIn F → RowsIn F
 rowsFor m =
     record {
       vertices = m .vertices;
@@ -80,14 +81,14 @@ curves-read cs l = ap (λ (w : List ℕ). firstOf (curveRow w) (length cs)) (l .
 pub steps-read : (cs : List Curve) {words : List ℕ} → Begins words (vertexWords cs) → firstOf (stepRow words) (curveVertices cs) ≡ flatMap ownSteps cs
 steps-read cs l = ap (λ (w : List ℕ). firstOf (stepRow w) (curveVertices cs)) (l .is) ∙ steps-back cs (l .rest)
 
-rows-laid : (kind : Kind) (m : Mesh) (b : Bench) → Laid m b → Formed kind m → rowsOf kind (sizesOf m) b ≡ rowsFor m
+rows-laid : {F : Form} (kind : Kind) (m : MeshIn F) (b : BenchIn F) → Laid m b → Formed kind m → rowsOf kind (sizesOf m) b ≡ rowsFor m
 unfolding rowsOf sizesOf benchOf
-rows-laid kind m b l f =
+rows-laid {F} kind m b l f =
     let p = l .positions in
     let q = l .marks in
     λ i.
     record {
-      vertices = (ap₂ (λ (x : List _) (y : List ℕ). firstOf (vertexRow x y) (length (m .vertices))) (p .is) (q .is) ∙ vertices-back (m .vertices) (p .rest) (q .rest)) i;
+      vertices = (ap₂ (λ (x : List _) (y : List ℕ). firstOf (vertexRowIn F x y) (length (m .vertices))) (p .is) (q .is) ∙ vertices-back F (m .vertices) (p .rest) (q .rest)) i;
       points = (ap (λ (w : List ℕ). firstOf (λ (j : ℕ). getD w j 0) (length (m .points))) (l .points .is) ∙ points-back (m .points) (l .points .rest)) i;
       lines = elements-read 2 (m .lists .lines) (l .lines) (f .lines) i;
       areas = elements-read (areaCorners kind) (m .lists .areas) (l .areas) (f .areas) i;
@@ -96,7 +97,7 @@ rows-laid kind m b l f =
       curveVertices = steps-read (m .lists .curves) (l .curveVertices) i;
     }
 
-mesh-own : (kind : Kind) (m : Mesh) → Formed kind m → meshOf (rowsFor m) ≡ m
+mesh-own : {F : Form} (kind : Kind) (m : MeshIn F) → Formed kind m → meshOf (rowsFor m) ≡ m
 unfolding meshOf
 mesh-own kind m f =
     λ i.
@@ -154,11 +155,11 @@ curves-good (c ∷ cs) =
     (ap test t ∙ steps-good (c .vertices) (c .parities))
     (ap (λ (r : List StepRow). every test (curveParts (map curveRowOf cs) r)) d ∙ curves-good cs)
 
-marks-own : (kind : Kind) (m : Mesh) → Formed kind m → marksHold (rowsFor m) ≡ true
+marks-own : {F : Form} (kind : Kind) (m : MeshIn F) → Formed kind m → marksHold (rowsFor m) ≡ true
 unfolding marksHold
-marks-own kind m f =
+marks-own {F} kind m f =
     rw (
-      every-true (λ (v : Vertex). goodFlags (v .flags)) (m .vertices) (f .flags),
+      every-true (λ (v : F .Vertex). goodFlags (F .flags v)) (m .vertices) (f .flags),
       elements-good (m .lists .lines),
       elements-good (m .lists .areas),
       elements-good (m .lists .volumes),
@@ -167,11 +168,11 @@ marks-own kind m f =
     refl
 
 -- a mesh written over a bench that has its cells stands there
-pub stands : (kind : Kind) (m : Mesh) (b : Bench) → Laid m b → Formed kind m → within (sizesOf m) (cells kind b) ≡ true → StandsFor kind b m
+pub stands : {F : Form} (kind : Kind) (m : MeshIn F) (b : BenchIn F) → Laid m b → Formed kind m → within (sizesOf m) (cells kind b) ≡ true → StandsFor kind b m
 unfolding StandsFor countsHold sizesOf
-stands kind m b l f w =
+stands {F} kind m b l f w =
     let r = rows-laid kind m b l f in
-    let c : curveLengths (rowsOf kind (sizesOf m) b .curves) ≡ sizesOf m .«curve_vertices» = ap (λ (x : Rows). curveLengths (x .curves)) r ∙ counted in (
+    let c : curveLengths (rowsOf kind (sizesOf m) b .curves) ≡ sizesOf m .«curve_vertices» = ap (λ (x : RowsIn F). curveLengths (x .curves)) r ∙ counted in (
       both-true (within (sizesOf m) (cells kind b)) (eqb (curveLengths (rowsOf kind (sizesOf m) b .curves)) (sizesOf m .«curve_vertices»)) w
           (ap (λ (n : ℕ). eqb n (sizesOf m .«curve_vertices»)) c ∙ eqb-same (sizesOf m .«curve_vertices»)),
       ap marksHold r ∙ marks-own kind m f,

@@ -7,8 +7,9 @@ use native.Mathlib.Omega.{arith}
 use lib.ListN.{length, getD, take, drop, length-take, length-drop, length-map}
 use Rattle.geom.specs.declared.answer.Sizes.{Sizes}
 use Rattle.geom.specs.Book.{Kind}
+use Rattle.geom.specs.Form.{Form}
 use Rattle.geom.specs.Mesh.{curveVertices, sizesOf}
-use Rattle.geom.specs.Memory.{Bench, CurveRow, StepRow, areaCorners, volumeCorners, firstOf, vertexRow, elementRow, curveRow, stepRow, curvesOf, elementOf, rowsOf, meshOf}
+use Rattle.geom.specs.Memory.{BenchIn, CurveRow, StepRow, areaCorners, volumeCorners, firstOf, vertexRowIn, elementRow, curveRow, stepRow, curvesOf, elementOf, rowsOf, meshOf}
 use Rattle.geom.specs.Refusals.{curveLengths}
 use Rattle.geom.proofs.Rows.{length-firstOf}
 
@@ -29,14 +30,14 @@ curves-count (c ∷ cs) rs l =
 elements-count : (k : ℕ) (words : List ℕ) (n : ℕ) → length (map elementOf (firstOf (elementRow k words) n)) ≡ n
 elements-count k words n = length-map (firstOf (elementRow k words) n) elementOf ∙ length-firstOf (elementRow k words) n
 
-pub sizes-stated : (kind : Kind) (s : Sizes) (b : Bench) → curveLengths (firstOf (curveRow (b .curves)) (s .curves)) ≡ s .«curve_vertices» → sizesOf (meshOf (rowsOf kind s b)) ≡ s
+pub sizes-stated : {F : Form} (kind : Kind) (s : Sizes) (b : BenchIn F) → curveLengths (firstOf (curveRow (b .curves)) (s .curves)) ≡ s .«curve_vertices» → sizesOf (meshOf (rowsOf kind s b)) ≡ s
 unfolding sizesOf meshOf rowsOf
-sizes-stated kind s b e =
+sizes-stated {F} kind s b e =
     let cs = firstOf (curveRow (b .curves)) (s .curves) in
     let rs = firstOf (stepRow (b .curveVertices)) (s .«curve_vertices») in
     λ i.
     record {
-      vertices = length-firstOf (vertexRow (b .positions) (b .marks)) (s .vertices) i;
+      vertices = length-firstOf (vertexRowIn F (b .positions) (b .marks)) (s .vertices) i;
       points = length-firstOf (λ (j : ℕ). getD (b .points) j 0) (s .points) i;
       lines = elements-count 2 (b .lines) (s .lines) i;
       areas = elements-count (areaCorners kind) (b .areas) (s .areas) i;

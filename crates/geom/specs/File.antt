@@ -66,6 +66,17 @@ fileOf kind m =
     ++ listBytes elementBytes (m .lists .volumes)
     ++ listBytes curveBytes (m .lists .curves)
 
+-- how many bytes that is, by the sizes alone: 2, and for each list 4 of its count and its entries
+unfoldable pub fileLength : Kind → Sizes → ℕ
+fileLength kind s =
+    26
+    + 25 * s .vertices
+    + 4 * s .points
+    + 9 * s .lines
+    + (4 * areaCorners kind + 1) * s .areas
+    + (4 * volumeCorners kind + 1) * s .volumes
+    + (5 * s .«curve_vertices» + 7 * s .curves)
+
 -- ---- reading
 
 -- what was read, with the bytes that are left; or the number of the refusal

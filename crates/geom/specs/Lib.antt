@@ -9,6 +9,9 @@ pub mod Cubes
 pub mod Passes
 pub mod Ledger
 -- the vertex rules, and the refinement of a whole mesh,
+pub mod Form
+pub mod Floats
+pub mod Forms
 pub mod Vertices
 pub mod Mesh
 pub mod Smoothing
@@ -17,6 +20,8 @@ pub mod Refinement
 -- a mesh in memory, and what is refused
 pub mod Memory
 pub mod Refusals
+-- what a refinement keeps
+pub mod Soundness
 -- what else is done with a mesh
 pub mod Triangulation
 pub mod Normals

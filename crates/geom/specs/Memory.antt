@@ -8,19 +8,20 @@ use mathlib.Core.List.{List, [], _∷_, _++_, map, flatMap}
 use Prim.Native.Nat.{ℕ, zero, suc, _+_, _*_, _/_, min}
 use lib.Ieee.{Float}
 use lib.ListN.{length, getD, take, drop}
-use Rattle.numbers.specs.Binary32 as Binary32
 use Rattle.geom.specs.declared.parity.Parity.{Parity}
 use Rattle.geom.specs.declared.parity.Parity.the-variants.{Even, Odd}
 use Rattle.geom.specs.declared.vertex.Vertex.{Vertex}
 use Rattle.geom.specs.declared.answer.Sizes.{Sizes}
 use Rattle.geom.specs.Book.{Kind, cubes, simplices}
 use Rattle.geom.specs.Elements.{Element, Curve}
-use Rattle.geom.specs.Mesh.{Mesh}
+use Rattle.geom.specs.Form.{Fourfold, Form}
+use Rattle.geom.specs.Floats.{binary32}
+use Rattle.geom.specs.Mesh.{MeshIn}
 
 -- the words of the lists on one bench
-pub record Bench : Type 0 where
+pub record BenchIn (F : Form) : Type 0 where
   -- 4 words a vertex
-  pub positions : List Float
+  pub positions : List (F .Coordinate)
   -- 3 words a vertex: flags, tag, k
   pub marks : List ℕ
   pub points : List ℕ
@@ -33,6 +34,9 @@ pub record Bench : Type 0 where
   -- 2 words a curve vertex: number, parity of the step to the next
   pub curveVertices : List ℕ
 
+abbrev pub Bench : Type 0
+Bench = BenchIn binary32
+
 -- how many corners an area and a volume have
 abbrev pub areaCorners : Kind → ℕ
 areaCorners cubes = 4
@@ -43,7 +47,7 @@ volumeCorners cubes = 8
 volumeCorners simplices = 4
 
 -- Lent cells: whole rows; of a list in two slices, the smaller number.
-unfoldable pub cells : Kind → Bench → Sizes
+unfoldable pub cells : {F : Form} → Kind → BenchIn F → Sizes
 cells kind b =
     record {
       vertices = min (length (b .positions) / 4) (length (b .marks) / 3);
@@ -73,8 +77,8 @@ pub record StepRow : Type 0 where
   pub step : ℕ
 
 -- all rows of a mesh, as many as are stated; any words and any floats
-pub record Rows : Type 0 where
-  pub vertices : List Vertex
+pub record RowsIn (F : Form) : Type 0 where
+  pub vertices : List (F .Vertex)
   pub points : List ℕ
   pub lines : List ElementRow
   pub areas : List ElementRow
@@ -82,25 +86,33 @@ pub record Rows : Type 0 where
   pub curves : List CurveRow
   pub curveVertices : List StepRow
 
+abbrev pub Rows : Type 0
+Rows = RowsIn binary32
+
 -- what stands at 0, 1, .. of n places
 unfoldable pub firstOf : {A : Type 0} → (ℕ → A) → ℕ → List A
 firstOf at zero = []
 firstOf at (suc n) = firstOf at n ++ at n ∷ []
 
-unfoldable pub vertexRow : List Float → List ℕ → ℕ → Vertex
-vertexRow positions marks i =
-    record {
-      position =
-          record {
-            x = getD positions (4 * i) Binary32.zero;
-            y = getD positions (4 * i + 1) Binary32.zero;
-            z = getD positions (4 * i + 2) Binary32.zero;
-            w = getD positions (4 * i + 3) Binary32.zero;
-          };
-      flags = getD marks (3 * i) 0;
-      tag = getD marks (3 * i + 1) 0;
-      k = getD marks (3 * i + 2) 0;
-    }
+-- the four in row i of words
+unfoldable pub fourRow : {A Four : Type 0} → Fourfold A Four → List A → ℕ → Four
+fourRow q words i =
+    q .four
+    (getD words (4 * i) (q .zero))
+    (getD words (4 * i + 1) (q .zero))
+    (getD words (4 * i + 2) (q .zero))
+    (getD words (4 * i + 3) (q .zero))
+
+unfoldable pub vertexRowIn : (F : Form) → List (F .Coordinate) → List ℕ → ℕ → F .Vertex
+vertexRowIn F positions marks i =
+    F .vertex
+    (fourRow (F .points) positions i)
+    (getD marks (3 * i) 0)
+    (getD marks (3 * i + 1) 0)
+    (getD marks (3 * i + 2) 0)
+
+abbrev pub vertexRow : List Float → List ℕ → ℕ → Vertex
+vertexRow = vertexRowIn binary32
 
 unfoldable pub elementRow : ℕ → List ℕ → ℕ → ElementRow
 elementRow corners words i =
@@ -113,10 +125,10 @@ unfoldable pub stepRow : List ℕ → ℕ → StepRow
 stepRow words i = record { vertex = getD words (2 * i) 0; step = getD words (2 * i + 1) 0 }
 
 -- the rows that the caller states
-unfoldable pub rowsOf : Kind → Sizes → Bench → Rows
-rowsOf kind s b =
+unfoldable pub rowsOf : {F : Form} → Kind → Sizes → BenchIn F → RowsIn F
+rowsOf {F} kind s b =
     record {
-      vertices = firstOf (vertexRow (b .positions) (b .marks)) (s .vertices);
+      vertices = firstOf (vertexRowIn F (b .positions) (b .marks)) (s .vertices);
       points = firstOf (λ (i : ℕ). getD (b .points) i 0) (s .points);
       lines = firstOf (elementRow 2 (b .lines)) (s .lines);
       areas = firstOf (elementRow (areaCorners kind) (b .areas)) (s .areas);
@@ -156,7 +168,7 @@ curvesOf (c ∷ cs) steps =
     }
     ∷ curvesOf cs (drop (c .count) steps)
 
-unfoldable pub meshOf : Rows → Mesh
+unfoldable pub meshOf : {F : Form} → RowsIn F → MeshIn F
 meshOf r =
     record {
       vertices = r .vertices;
@@ -192,12 +204,21 @@ curveWords = flatMap (λ (c : Curve). c .tag ∷ length (c .vertices) ∷ [])
 unfoldable pub vertexWords : List Curve → List ℕ
 vertexWords = flatMap (λ (c : Curve). stepsWords (c .vertices) (c .parities))
 
-unfoldable pub benchOf : Mesh → Bench
-benchOf m =
+-- the words of four, of a vertex's position and of its marks
+abbrev pub fourWords : {A Four : Type 0} → Fourfold A Four → Four → List A
+fourWords q p = q .x p ∷ q .y p ∷ q .z p ∷ q .w p ∷ []
+
+abbrev pub positionWordsIn : (F : Form) → F .Vertex → List (F .Coordinate)
+positionWordsIn F v = fourWords (F .points) (F .position v)
+
+abbrev pub markWordsIn : (F : Form) → F .Vertex → List ℕ
+markWordsIn F v = F .flags v ∷ F .tag v ∷ F .k v ∷ []
+
+unfoldable pub benchOf : {F : Form} → MeshIn F → BenchIn F
+benchOf {F} m =
     record {
-      positions =
-          flatMap (λ (v : Vertex). v .position .x ∷ v .position .y ∷ v .position .z ∷ v .position .w ∷ []) (m .vertices);
-      marks = flatMap (λ (v : Vertex). v .flags ∷ v .tag ∷ v .k ∷ []) (m .vertices);
+      positions = flatMap (positionWordsIn F) (m .vertices);
+      marks = flatMap (markWordsIn F) (m .vertices);
       points = m .points;
       lines = elementWords (m .lists .lines);
       areas = elementWords (m .lists .areas);

@@ -4,14 +4,18 @@
 use mathlib.Core.List.{List, [], _∷_}
 use Prim.Native.Nat.{ℕ, _+_}
 use lib.ListN.{length}
-use Rattle.geom.specs.declared.vertex.Vertex.{Vertex}
 use Rattle.geom.specs.declared.answer.Sizes.{Sizes}
 use Rattle.geom.specs.Elements.{Curve, Lists}
+use Rattle.geom.specs.Form.{Form}
+use Rattle.geom.specs.Floats.{binary32}
 
-pub record Mesh : Type 0 where
-  pub vertices : List Vertex
+pub record MeshIn (F : Form) : Type 0 where
+  pub vertices : List (F .Vertex)
   pub points : List ℕ
   pub lists : Lists
+
+abbrev pub Mesh : Type 0
+Mesh = MeshIn binary32
 
 -- curve vertices over all curves
 unfoldable pub curveVertices : List Curve → ℕ
@@ -19,7 +23,7 @@ curveVertices [] = 0
 curveVertices (c ∷ cs) = length (c .vertices) + curveVertices cs
 
 -- the sizes of a mesh's lists
-unfoldable pub sizesOf : Mesh → Sizes
+unfoldable pub sizesOf : {F : Form} → MeshIn F → Sizes
 sizesOf m =
     record {
       vertices = length (m .vertices);

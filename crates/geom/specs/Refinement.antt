@@ -11,23 +11,28 @@ use Rattle.geom.specs.declared.answer.Sizes.{Sizes}
 use Rattle.geom.specs.Book.{Kind, Book}
 use Rattle.geom.specs.Passes.{pass}
 use Rattle.geom.specs.Answers.{Verdict, accepted, refused, Told}
-use Rattle.geom.specs.Mesh.{Mesh, sizesOf}
-use Rattle.geom.specs.Smoothing.{withMidpoints, smoothed}
+use Rattle.geom.specs.Form.{Form}
+use Rattle.geom.specs.Floats.{binary32}
+use Rattle.geom.specs.Mesh.{MeshIn, sizesOf}
+use Rattle.geom.specs.Smoothing.{withMidpointsIn, smoothedIn}
 
 -- a mesh after some passes, and the book kept through them
-pub record State : Type 0 where
-  pub mesh : Mesh
+pub record StateIn (F : Form) : Type 0 where
+  pub mesh : MeshIn F
   pub book : Book
 
+abbrev pub State : Type 0
+State = StateIn binary32
+
 -- One pass over a whole mesh: the lists are replaced, points stay. `base` is the vertex count handed in.
-unfoldable pub passOver : Kind → Bool → ℕ → State → State
-passOver kind time base s =
+unfoldable pub passOver : {F : Form} → Kind → Bool → ℕ → StateIn F → StateIn F
+passOver {F} kind time base s =
     let went = pass kind base (record { lists = s .mesh .lists; book = s .book }) in
-    let vertices = withMidpoints (s .mesh .vertices) (drop (length (s .book)) (went .book)) in
+    let vertices = withMidpointsIn F (s .mesh .vertices) (drop (length (s .book)) (went .book)) in
     record {
       mesh =
           record {
-            vertices = smoothed kind time (went .lists) vertices;
+            vertices = smoothedIn F kind time (went .lists) vertices;
             points = s .mesh .points;
             lists = went .lists;
           };
@@ -35,11 +40,11 @@ passOver kind time base s =
     }
 
 -- the mesh handed in, with the book empty
-abbrev pub begun : Mesh → State
+abbrev pub begun : {F : Form} → MeshIn F → StateIn F
 begun mesh = record { mesh = mesh; book = [] }
 
 -- the mesh and the book after n passes
-unfoldable pub stateAfter : Kind → Bool → Mesh → ℕ → State
+unfoldable pub stateAfter : {F : Form} → Kind → Bool → MeshIn F → ℕ → StateIn F
 stateAfter kind time mesh zero = begun mesh
 stateAfter kind time mesh (suc n) = passOver kind time (length (mesh .vertices)) (stateAfter kind time mesh n)
 
@@ -79,7 +84,7 @@ LIMITS =
     }
 
 -- no list, nor the book, exceeds its lent length or the limit
-unfoldable pub fits : Lent → State → Bool
+unfoldable pub fits : {F : Form} → Lent → StateIn F → Bool
 fits lent s =
     within (sizesOf (s .mesh)) (lent .cells)
     && within (sizesOf (s .mesh)) LIMITS
@@ -89,22 +94,25 @@ fits lent s =
 -- ---- the refinement
 
 -- how many passes were whole, what they left, and how it ended
-pub record Run : Type 0 where
+pub record RunIn (F : Form) : Type 0 where
   pub passes : ℕ
-  pub left : State
+  pub left : StateIn F
   pub verdict : Verdict
 
+abbrev pub Run : Type 0
+Run = RunIn binary32
+
 -- `depth` more passes from a state after n: 10 stops before the first that doesn't fit, and leaves the mesh before it
-unfoldable pub runFrom : Kind → Bool → Lent → ℕ → ℕ → ℕ → State → Run
+unfoldable pub runFrom : {F : Form} → Kind → Bool → Lent → ℕ → ℕ → ℕ → StateIn F → RunIn F
 runFrom kind time lent base zero n s = record { passes = n; left = s; verdict = accepted }
 runFrom kind time lent base (suc depth) n s =
     let next = passOver kind time base s in
     let onward = runFrom kind time lent base depth (suc n) next in
     cond (fits lent next) onward (record { passes = n; left = s; verdict = refused 10 })
 
-unfoldable pub run : Kind → Bool → Lent → ℕ → Mesh → Run
+unfoldable pub run : {F : Form} → Kind → Bool → Lent → ℕ → MeshIn F → RunIn F
 run kind time lent depth mesh = runFrom kind time lent (length (mesh .vertices)) depth 0 (begun mesh)
 
 -- what the answer says: the number of whole passes, the sizes of the mesh that they left, and how it ended
-unfoldable pub toldBy : Run → Told
+unfoldable pub toldBy : {F : Form} → RunIn F → Told
 toldBy r = record { passes = r .passes; sizes = sizesOf (r .left .mesh); verdict = r .verdict }

@@ -2,22 +2,21 @@
 -- Says nothing of files (File). What triangulation and normals refuse beyond this stands with them.
 -- Assumes nothing.
 use mathlib.Core.Path.{_≡_}
-use mathlib.Core.Bool.{Bool, true, false, cond, not, _&&_}
+use mathlib.Core.Bool.{Bool, true, cond, not, _&&_}
 use mathlib.Core.List.{List, [], _∷_}
 use Prim.Native.Nat.{ℕ, _+_, _/_, _%_, min}
 use lib.Dec.{eqb, leb, ltb}
-use lib.Ieee as Ieee
-use lib.Ieee.{Float, fin}
-use lib.IntN.{pos}
 use lib.ListN.{length}
 use Rattle.numbers.specs.declared.vec4.Vec4.{Vec4}
-use Rattle.geom.specs.declared.vertex.Vertex.{Vertex}
 use Rattle.geom.specs.declared.answer.Sizes.{Sizes}
 use Rattle.geom.specs.Book.{Kind}
 use Rattle.geom.specs.Answers.{Verdict, accepted, refused, Told, Due, due, firstDue}
-use Rattle.geom.specs.Mesh.{Mesh, sizesOf}
-use Rattle.geom.specs.Refinement.{LIMITS, Lent, within, Run, run, toldBy}
-use Rattle.geom.specs.Memory.{Bench, cells, ElementRow, CurveRow, StepRow, Rows, rowsOf, stepWords, curveParts, meshOf}
+use Rattle.geom.specs.Form.{Form}
+use Rattle.geom.specs.Floats.{binary32}
+unfoldable pub use Rattle.geom.specs.Floats.{goodCoordinate}
+use Rattle.geom.specs.Mesh.{MeshIn, sizesOf}
+use Rattle.geom.specs.Refinement.{LIMITS, Lent, within, RunIn, run, toldBy}
+use Rattle.geom.specs.Memory.{BenchIn, cells, ElementRow, CurveRow, StepRow, RowsIn, rowsOf, stepWords, curveParts, meshOf}
 
 -- ---- each test
 
@@ -33,12 +32,12 @@ goodFlags flags = leb flags 15
 unfoldable pub goodParity : ℕ → Bool
 goodParity p = leb p 1
 
--- 6: finite, from -1,024 to 1,024
-unfoldable pub goodCoordinate : Float → Bool
-goodCoordinate c = Ieee.le (fin true 1 (pos 10)) c && Ieee.le c (fin false 1 (pos 10))
+-- 6: each coordinate is one that the form accepts
+unfoldable pub goodPositionIn : (F : Form) → F .Point → Bool
+goodPositionIn F p = F .good (F .points .x p) && F .good (F .points .y p) && F .good (F .points .z p) && F .good (F .points .w p)
 
-unfoldable pub goodPosition : Vec4 → Bool
-goodPosition p = goodCoordinate (p .x) && goodCoordinate (p .y) && goodCoordinate (p .z) && goodCoordinate (p .w)
+abbrev pub goodPosition : Vec4 → Bool
+goodPosition = goodPositionIn binary32
 
 -- 7: a vertex number below the count
 unfoldable pub goodNumber : ℕ → ℕ → Bool
@@ -56,25 +55,25 @@ curveLengths (c ∷ cs) = c .count + curveLengths cs
 -- ---- the tests over a whole mesh in memory
 
 -- 9, what every entry asks: no list counts more entries than its lent cells, and curve lengths add up to the curve vertices
-unfoldable pub countsHold : Kind → Sizes → Bench → Bool
+unfoldable pub countsHold : {F : Form} → Kind → Sizes → BenchIn F → Bool
 countsHold kind s b =
     within s (cells kind b) && eqb (curveLengths (rowsOf kind s b .curves)) (s .«curve_vertices»)
 
 -- 5: flag bytes and parities, those of a curve's steps too
-unfoldable pub marksHold : Rows → Bool
-marksHold r =
-    every (λ (v : Vertex). goodFlags (v .flags)) (r .vertices)
+unfoldable pub marksHold : {F : Form} → RowsIn F → Bool
+marksHold {F} r =
+    every (λ (v : F .Vertex). goodFlags (F .flags v)) (r .vertices)
     && every (λ (e : ElementRow). goodParity (e .parity)) (r .lines)
     && every (λ (e : ElementRow). goodParity (e .parity)) (r .areas)
     && every (λ (e : ElementRow). goodParity (e .parity)) (r .volumes)
     && every (λ (part : List StepRow). every goodParity (stepWords part)) (curveParts (r .curves) (r .curveVertices))
 
 -- 6
-unfoldable pub positionsHold : Rows → Bool
-positionsHold r = every (λ (v : Vertex). goodPosition (v .position)) (r .vertices)
+unfoldable pub positionsHold : {F : Form} → RowsIn F → Bool
+positionsHold {F} r = every (λ (v : F .Vertex). goodPositionIn F (F .position v)) (r .vertices)
 
 -- 7
-unfoldable pub numbersHold : ℕ → Rows → Bool
+unfoldable pub numbersHold : {F : Form} → ℕ → RowsIn F → Bool
 numbersHold count r =
     every (goodNumber count) (r .points)
     && every (λ (e : ElementRow). every (goodNumber count) (e .corners)) (r .lines)
@@ -83,7 +82,7 @@ numbersHold count r =
     && every (λ (s : StepRow). goodNumber count (s .vertex)) (r .curveVertices)
 
 -- In memory: 9, 5, 6, 7, 8, then 10 for the lists handed in. An entry may have more to ask at 9 and at 5.
-unfoldable pub handedIn : Bool → Bool → Kind → Sizes → Bench → List Due
+unfoldable pub handedIn : {F : Form} → Bool → Bool → Kind → Sizes → BenchIn F → List Due
 handedIn nine five kind s b =
     let r = rowsOf kind s b in
     due 9 (not (countsHold kind s b && nine))
@@ -97,49 +96,59 @@ handedIn nine five kind s b =
 -- ---- the refinement's entry
 
 -- what is lent to it: two benches, the book and smoothing's cells
-pub record Desk : Type 0 where
-  pub first : Bench
-  pub second : Bench
+pub record DeskIn (F : Form) : Type 0 where
+  pub first : BenchIn F
+  pub second : BenchIn F
   -- 4 words a cell
   pub book : List ℕ
   -- smoothing: 4 words a cell for the sum, 2 for count and touch
-  pub sums : List Float
+  pub sums : List (F .Cell)
   pub tallies : List ℕ
 
+abbrev pub Desk : Type 0
+Desk = DeskIn binary32
+
 -- a list's two benches are equal: as many lent cells
-unfoldable pub benchesEqual : Kind → Bench → Bench → Bool
+unfoldable pub benchesEqual : {F : Form} → Kind → BenchIn F → BenchIn F → Bool
 benchesEqual kind first second =
     within (cells kind first) (cells kind second) && within (cells kind second) (cells kind first)
 
 -- the benches are equal, and smoothing's cells are as long as the vertex benches
-unfoldable pub benchesHold : Kind → Desk → Bool
+unfoldable pub benchesHold : {F : Form} → Kind → DeskIn F → Bool
 benchesHold kind d =
     benchesEqual kind (d .first) (d .second)
     && eqb (min (length (d .sums) / 4) (length (d .tallies) / 2)) (cells kind (d .first) .vertices)
 
-unfoldable pub lentBy : Kind → Desk → Lent
-lentBy kind d = record { cells = cells kind (d .first); book = length (d .book) / 4 }
+-- the words of a cell of the book
+abbrev pub BOOK-WORDS : ℕ
+BOOK-WORDS = 6
+
+unfoldable pub lentBy : {F : Form} → Kind → DeskIn F → Lent
+lentBy kind d = record { cells = cells kind (d .first); book = length (d .book) / BOOK-WORDS }
 
 -- the refusal that is due before the first pass, at depth 0 too
-unfoldable pub refinementVerdict : Kind → Sizes → Desk → ℕ → Verdict
+unfoldable pub refinementVerdict : {F : Form} → Kind → Sizes → DeskIn F → ℕ → Verdict
 refinementVerdict kind s d time = firstDue (handedIn (benchesHold kind d) (goodParity time) kind s (d .first))
 
 -- refused before the first pass, and nothing changes; or run
-pub data Subdivided : Type 0 where
-  unchanged : ℕ → Subdivided
-  ran : Run → Subdivided
+pub data SubdividedIn (F : Form) : Type 0 where
+  unchanged : ℕ → SubdividedIn F
+  ran : RunIn F → SubdividedIn F
 
-abbrev pub subdividedBy : Verdict → Run → Subdivided
+abbrev pub Subdivided : Type 0
+Subdivided = SubdividedIn binary32
+
+abbrev pub subdividedBy : {F : Form} → Verdict → RunIn F → SubdividedIn F
 subdividedBy (refused n) r = unchanged n
 subdividedBy accepted r = ran r
 
 -- The whole of it: from the words handed in, the depth and the smooth_time byte.
-unfoldable pub subdivided : Kind → Sizes → Desk → ℕ → ℕ → Subdivided
+unfoldable pub subdivided : {F : Form} → Kind → Sizes → DeskIn F → ℕ → ℕ → SubdividedIn F
 subdivided kind s d depth time =
     subdividedBy (refinementVerdict kind s d time) (run kind (eqb time 1) (lentBy kind d) depth (meshOf (rowsOf kind s (d .first))))
 
 -- what the answer says; after a refusal before the first pass the mesh has the sizes that the caller stated
-unfoldable pub toldAfter : Sizes → Subdivided → Told
+unfoldable pub toldAfter : {F : Form} → Sizes → SubdividedIn F → Told
 toldAfter s (unchanged n) = record { passes = 0; sizes = s; verdict = refused n }
 toldAfter s (ran r) = toldBy r
 
@@ -149,12 +158,12 @@ side passes first second = cond (eqb (passes % 2) 0) first second
 
 -- The words on a bench are a mesh: counts and marks are in order, and the rows stand for it. This fixes every word of every entry but the one
 -- beside a curve's last vertex.
-unfoldable pub StandsFor : Kind → Bench → Mesh → Type 0
+unfoldable pub StandsFor : {F : Form} → Kind → BenchIn F → MeshIn F → Type 0
 StandsFor kind b m =
     let s = sizesOf m in
     (countsHold kind s b ≡ true) × (marksHold (rowsOf kind s b) ≡ true) × (meshOf (rowsOf kind s b) ≡ m)
 
 -- What is lent, afterwards: as it was, or with the mesh left on the bench that the last whole pass wrote and the other cells free.
-unfoldable pub Leaves : Kind → Subdivided → Desk → Desk → Type 0
+unfoldable pub Leaves : {F : Form} → Kind → SubdividedIn F → DeskIn F → DeskIn F → Type 0
 Leaves kind (unchanged n) before after = after ≡ before
 Leaves kind (ran r) before after = StandsFor kind (side (r .passes) (after .first) (after .second)) (r .left .mesh)

@@ -9,14 +9,12 @@ use native.Mathlib.Nat.{mul-suc, mul-le-mul-left, eq-or-lt-of-le, add-zero}
 use native.Mathlib.Numerals.{add-one}
 use native.Mathlib.Omega.{arith}
 use lib.Dec.{ltb, leb·suc-suc}
-use lib.Ieee.{Float}
 use lib.ListN.{length, getD, take, drop, length-drop}
 use borrow.Author.Tests.{lt-ltb}
-use Rattle.numbers.specs.Binary32 as Binary32
-use Rattle.geom.specs.declared.vertex.Vertex.{Vertex}
+use Rattle.geom.specs.Form.{Form}
 use lib.Seq.{take-suc, getD-drop}
-use Rattle.geom.specs.Memory.{ElementRow, StepRow, firstOf, vertexRow, elementRow, stepRow}
-use Rattle.geom.specs.Refusals.{every, goodNumber, goodFlags, goodParity, goodCoordinate, goodPosition}
+use Rattle.geom.specs.Memory.{ElementRow, StepRow, firstOf, fourRow, vertexRowIn, elementRow, stepRow}
+use Rattle.geom.specs.Refusals.{every, goodNumber, goodFlags, goodParity, goodPositionIn}
 use Rattle.judge.specs.Words.{wordAt, columnBelow, wordsBelow, Column, Elements}
 use Rattle.geom.proofs.Lists.{and-true, and-false}
 
@@ -155,12 +153,12 @@ words-corners words corners rows count e p =
 
 -- ---- columns as the rows' tests
 
-pub flags-column : (positions : List Float) (marks : List ℕ) (n : ℕ)
-    → columnBelow marks 3 0 n 16 ≡ every (λ (v : Vertex). goodFlags (v .flags)) (firstOf (vertexRow positions marks) n)
-unfolding goodNumber goodFlags vertexRow
-flags-column positions marks n =
-    every-same (goodNumber 16) (wordAt marks 3 0) (λ (v : Vertex). goodFlags (v .flags)) (vertexRow positions marks) n
-    (λ i h. rw (add-zero (3 * i)) (leb·suc-suc (getD marks (3 * i) 0) 15))
+pub flags-column : (F : Form) (positions : List (F .Coordinate)) (marks : List ℕ) (n : ℕ)
+    → columnBelow marks 3 0 n 16 ≡ every (λ (v : F .Vertex). goodFlags (F .flags v)) (firstOf (vertexRowIn F positions marks) n)
+unfolding goodNumber goodFlags vertexRowIn fourRow
+flags-column F positions marks n =
+    every-same (goodNumber 16) (wordAt marks 3 0) (λ (v : F .Vertex). goodFlags (F .flags v)) (vertexRowIn F positions marks) n
+    (λ i h. rw (add-zero (3 * i), F .parts-of _ _ _ _ .1) (leb·suc-suc (getD marks (3 * i) 0) 15))
 
 pub parities-column : (words : List ℕ) (corners n : ℕ)
     → columnBelow words (corners + 1) corners n 2 ≡ every (λ (e : ElementRow). goodParity (e .parity)) (firstOf (elementRow corners words) n)
@@ -181,37 +179,44 @@ and-four : (e a b c d : Bool) → (e && a && b && c && d) ≡ (e && (a && b && c
 and-four true a b c d = refl
 and-four false a b c d = refl
 
-pub positions-words : (positions : List Float) (marks : List ℕ) (n : ℕ)
-    → every goodCoordinate (firstOf (λ (i : ℕ). getD positions i Binary32.zero) (4 * n))
-    ≡ every (λ (v : Vertex). goodPosition (v .position)) (firstOf (vertexRow positions marks) n)
+pub positions-words : (F : Form) (positions : List (F .Coordinate)) (marks : List ℕ) (n : ℕ)
+    → every (F .good) (firstOf (λ (i : ℕ). getD positions i (F .points .zero)) (4 * n))
+    ≡ every (λ (v : F .Vertex). goodPositionIn F (F .position v)) (firstOf (vertexRowIn F positions marks) n)
 unfolding firstOf every
-positions-words positions marks zero = refl
-positions-words positions marks (suc n) =
-    let at : ℕ → Float = λ i. getD positions i Binary32.zero in
-    ap (λ (k : ℕ). every goodCoordinate (firstOf at k)) (four n)
-    ∙ every-suc goodCoordinate at (4 * n + 3)
-    ∙ ap (λ (b : Bool). b && goodCoordinate (at (4 * n + 3))) (three at n)
-    ∙ and-four (every goodCoordinate (firstOf at (4 * n))) (goodCoordinate (at (4 * n))) (goodCoordinate (at (4 * n + 1))) (goodCoordinate (at (4 * n + 2))) (goodCoordinate (at (4 * n + 3)))
-    ∙ ap₂ _&&_ (positions-words positions marks n) (row positions marks n)
-    ∙ sym (every-suc (λ (v : Vertex). goodPosition (v .position)) (vertexRow positions marks) n)
+positions-words F positions marks zero = refl
+positions-words F positions marks (suc n) =
+    let at : ℕ → F .Coordinate = λ i. getD positions i (F .points .zero) in
+    ap (λ (k : ℕ). every (F .good) (firstOf at k)) (four n)
+    ∙ every-suc (F .good) at (4 * n + 3)
+    ∙ ap (λ (b : Bool). b && F .good (at (4 * n + 3))) (three at n)
+    ∙ and-four (every (F .good) (firstOf at (4 * n))) (F .good (at (4 * n))) (F .good (at (4 * n + 1))) (F .good (at (4 * n + 2))) (F .good (at (4 * n + 3)))
+    ∙ ap₂ _&&_ (positions-words F positions marks n) (row n)
+    ∙ sym (every-suc (λ (v : F .Vertex). goodPositionIn F (F .position v)) (vertexRowIn F positions marks) n)
   where
     four : (n : ℕ) → 4 * suc n ≡ suc (4 * n + 3)
     four n = omega arith
 
-    three : (at : ℕ → Float) (n : ℕ) → every goodCoordinate (firstOf at (4 * n + 3))
-        ≡ (every goodCoordinate (firstOf at (4 * n)) && goodCoordinate (at (4 * n)) && goodCoordinate (at (4 * n + 1)) && goodCoordinate (at (4 * n + 2)))
+    three : (at : ℕ → F .Coordinate) (n : ℕ) → every (F .good) (firstOf at (4 * n + 3))
+        ≡ (every (F .good) (firstOf at (4 * n)) && F .good (at (4 * n)) && F .good (at (4 * n + 1)) && F .good (at (4 * n + 2)))
     three at n =
         let p : 4 * n + 3 ≡ suc (4 * n + 2) = omega arith in
         let q : 4 * n + 2 ≡ suc (4 * n + 1) = omega arith in
-        ap (λ (k : ℕ). every goodCoordinate (firstOf at k)) p
-        ∙ every-suc goodCoordinate at (4 * n + 2)
-        ∙ ap (λ (b : Bool). b && goodCoordinate (at (4 * n + 2)))
-        (ap (λ (k : ℕ). every goodCoordinate (firstOf at k)) q
-        ∙ every-suc goodCoordinate at (4 * n + 1)
-        ∙ ap (λ (b : Bool). b && goodCoordinate (at (4 * n + 1)))
-        (ap (λ (k : ℕ). every goodCoordinate (firstOf at k)) (add-one (4 * n)) ∙ every-suc goodCoordinate at (4 * n)))
+        ap (λ (k : ℕ). every (F .good) (firstOf at k)) p
+        ∙ every-suc (F .good) at (4 * n + 2)
+        ∙ ap (λ (b : Bool). b && F .good (at (4 * n + 2)))
+        (ap (λ (k : ℕ). every (F .good) (firstOf at k)) q
+        ∙ every-suc (F .good) at (4 * n + 1)
+        ∙ ap (λ (b : Bool). b && F .good (at (4 * n + 1)))
+        (ap (λ (k : ℕ). every (F .good) (firstOf at k)) (add-one (4 * n)) ∙ every-suc (F .good) at (4 * n)))
 
-    row : (positions : List Float) (marks : List ℕ) (n : ℕ)
-        → (goodCoordinate (getD positions (4 * n) Binary32.zero) && goodCoordinate (getD positions (4 * n + 1) Binary32.zero) && goodCoordinate (getD positions (4 * n + 2) Binary32.zero) && goodCoordinate (getD positions (4 * n + 3) Binary32.zero))
-        ≡ goodPosition (vertexRow positions marks n .position)
-    row positions marks n = unfold goodPosition vertexRow in refl
+    row : (n : ℕ)
+        → (F .good (getD positions (4 * n) (F .points .zero)) && F .good (getD positions (4 * n + 1) (F .points .zero)) && F .good (getD positions (4 * n + 2) (F .points .zero)) && F .good (getD positions (4 * n + 3) (F .points .zero)))
+        ≡ goodPositionIn F (F .position (vertexRowIn F positions marks n))
+    row n =
+        unfold goodPositionIn vertexRowIn fourRow in
+        (let at : ℕ → F .Coordinate = λ i. getD positions i (F .points .zero) in
+        let axes = F .points .axes-of (at (4 * n)) (at (4 * n + 1)) (at (4 * n + 2)) (at (4 * n + 3)) in
+        sym (
+        ap (λ (p : F .Point). F .good (F .points .x p) && F .good (F .points .y p) && F .good (F .points .z p) && F .good (F .points .w p)) (F .parts-of _ _ _ _ .0)
+        ∙ (λ i. F .good (axes .0 i) && F .good (axes .1 i) && F .good (axes .2 i) && F .good (axes .3 i))
+        ))

@@ -7,16 +7,17 @@ use Prim.Native.Nat.{ℕ, suc, _+_, _*_, _/_, _≤_, min}
 use native.Mathlib.Nat.{le-div-iff-mul-le, zero-lt-suc, mul-comm}
 use native.Mathlib.Numerals.{add-one}
 use native.Mathlib.Omega.{arith}
-use lib.Dec.{eqb, leb}
+use lib.Dec.{eqb}
 use lib.ListN.{length}
-use borrow.Author.Tests.{leb-true, eqb-true}
+use borrow.Author.Tests.{eqb-true}
 use Rattle.geom.specs.declared.answer.Sizes.{Sizes}
-use Rattle.geom.specs.declared.vertex.Vertex.{Vertex}
+use Rattle.geom.specs.Form.{Form}
 use Rattle.geom.specs.Answers.{Verdict, accepted, refused, firstDue}
 use Rattle.geom.specs.Book.{Kind, cubes, simplices}
-use Rattle.geom.specs.Memory.{Bench, areaCorners, volumeCorners, ElementRow, StepRow, Rows, cells, firstOf, elementRow, curveRow, rowsOf, stepWords, curveParts}
+use Rattle.geom.specs.Memory.{BenchIn, areaCorners, volumeCorners, ElementRow, StepRow, RowsIn, cells, firstOf, elementRow, curveRow, rowsOf, stepWords, curveParts}
 use Rattle.geom.specs.Refinement.{LIMITS, within}
-use Rattle.geom.specs.Refusals.{every, goodFlags, goodParity, goodNumber, goodCurve, curveLengths, countsHold, marksHold, positionsHold, numbersHold, handedIn, Desk, benchesEqual, benchesHold, refinementVerdict}
+use Rattle.geom.specs.Refusals.{every, goodFlags, goodParity, goodNumber, goodCurve, curveLengths, countsHold, marksHold, positionsHold, numbersHold, handedIn, DeskIn, benchesEqual, benchesHold, refinementVerdict}
+use Rattle.geom.proofs.Within.{Within, within-facts}
 use Rattle.geom.proofs.Lists.{and-true-left, and-true-right}
 use Rattle.judge.specs.declared.counts.Lengths.{Lengths}
 use Rattle.judge.specs.Words.{Elements}
@@ -54,40 +55,6 @@ cells-are kind l v a w p q r = rw (p, q, r, add-one (areaCorners kind), add-one 
 
 -- ---- counts
 
-pub record Within (s t : Sizes) : Type 0 where
-  pub vertices : s .vertices ≤ t .vertices
-  pub points : s .points ≤ t .points
-  pub lines : s .lines ≤ t .lines
-  pub areas : s .areas ≤ t .areas
-  pub volumes : s .volumes ≤ t .volumes
-  pub curves : s .curves ≤ t .curves
-  pub «curve_vertices» : s .«curve_vertices» ≤ t .«curve_vertices»
-
-pub within-facts : (s t : Sizes) → within s t ≡ true → Within s t
-unfolding within
-within-facts s t e =
-    let v = leb (s .vertices) (t .vertices) in
-    let p = leb (s .points) (t .points) in
-    let l = leb (s .lines) (t .lines) in
-    let a = leb (s .areas) (t .areas) in
-    let o = leb (s .volumes) (t .volumes) in
-    let c = leb (s .curves) (t .curves) in
-    let k = leb (s .«curve_vertices») (t .«curve_vertices») in
-    let e6 : (v && p && l && a && o && c) ≡ true = and-true-left (v && p && l && a && o && c) k e in
-    let e5 : (v && p && l && a && o) ≡ true = and-true-left (v && p && l && a && o) c e6 in
-    let e4 : (v && p && l && a) ≡ true = and-true-left (v && p && l && a) o e5 in
-    let e3 : (v && p && l) ≡ true = and-true-left (v && p && l) a e4 in
-    let e2 : (v && p) ≡ true = and-true-left (v && p) l e3 in
-    record {
-      vertices = leb-true _ _ (and-true-left v p e2);
-      points = leb-true _ _ (and-true-right v p e2);
-      lines = leb-true _ _ (and-true-right (v && p) l e3);
-      areas = leb-true _ _ (and-true-right (v && p && l) a e4);
-      volumes = leb-true _ _ (and-true-right (v && p && l && a) o e5);
-      curves = leb-true _ _ (and-true-right (v && p && l && a && o) c e6);
-      «curve_vertices» = leb-true _ _ (and-true-right (v && p && l && a && o && c) k e);
-    }
-
 -- lent cells of curves are whole rows of their slice
 pub curves-room : (kind : Kind) (s : Sizes) (l : Lengths) (n : ℕ) → within s (cellsOf kind l) ≡ true → l .curves ≡ n → 2 * s .curves ≤ n
 unfolding cellsOf
@@ -97,11 +64,11 @@ curves-room kind s l n e q = omega (arith, within-facts s (cellsOf kind l) e .cu
 pub lent-told : (kind : Kind) (s : Sizes) (l : Lengths) (lent : Sizes) → lent ≡ cellsOf kind l → (r : Bool) → r ≡ within s lent → within s (cellsOf kind l) ≡ r
 lent-told kind s l lent e r q = sym (q ∙ ap (within s) e)
 
-cells-lengths : (kind : Kind) (b : Bench) → cells kind b ≡ cellsOf kind (lengthsOf b)
+cells-lengths : {F : Form} (kind : Kind) (b : BenchIn F) → cells kind b ≡ cellsOf kind (lengthsOf b)
 unfolding cells cellsOf
 cells-lengths kind b = refl
 
-module _ (kind : Kind) (s : Sizes) (l : Lengths) (curves : List ℕ) (b : Bench) (e : lengthsOf b ≡ l) (q : b .curves ≡ curves) where
+module _ {F : Form} (kind : Kind) (s : Sizes) (l : Lengths) (curves : List ℕ) (b : BenchIn F) (e : lengthsOf b ≡ l) (q : b .curves ≡ curves) where
   lent : within s (cells kind b) ≡ within s (cellsOf kind l)
   lent = ap (within s) (cells-lengths kind b ∙ ap (cellsOf kind) e)
 
@@ -121,7 +88,7 @@ elements-room words corners n few h =
     record { few = few; room = omega (arith, le-div-iff-mul-le (zero-lt-suc corners) .0 h, mul-comm (suc corners) n) }
 
 -- counts that hold leave room for every row that is stated
-module _ (kind : Kind) (s : Sizes) (b : Bench) (e : countsHold kind s b ≡ true) where
+module _ {F : Form} (kind : Kind) (s : Sizes) (b : BenchIn F) (e : countsHold kind s b ≡ true) where
   facts : Within s (cells kind b)
   unfolding countsHold
   facts = within-facts s (cells kind b) (and-true-left (within s (cells kind b)) (eqb (curveLengths (rowsOf kind s b .curves)) (s .«curve_vertices»)) e)
@@ -163,7 +130,7 @@ module _ (kind : Kind) (s : Sizes) (b : Bench) (e : countsHold kind s b ≡ true
 
 -- ---- equal benches
 
-benches-lengths : (kind : Kind) (d : Desk) → benchesHold kind d ≡ benchesOf kind (lengthsOf (d .first)) (lengthsOf (d .second)) (length (d .sums)) (length (d .tallies))
+benches-lengths : {F : Form} (kind : Kind) (d : DeskIn F) → benchesHold kind d ≡ benchesOf kind (lengthsOf (d .first)) (lengthsOf (d .second)) (length (d .sums)) (length (d .tallies))
 unfolding benchesEqual benchesHold benchesOf cells cellsOf
 benches-lengths kind d = refl
 
@@ -189,20 +156,20 @@ module _ (kind : Kind) (first second : Lengths) (sums tallies : ℕ) (here there
     benches-all z m h = rw (test, q, back, z, h, e) refl
 
 -- the verdict of a desk, from what the judge is told of it
-pub told : (kind : Kind) (s : Sizes) (time : ℕ) (first : Bench) (second : Lengths) (sums tallies : ℕ) (nine : Bool)
+pub told : {F : Form} (kind : Kind) (s : Sizes) (time : ℕ) (first : BenchIn F) (second : Lengths) (sums tallies : ℕ) (nine : Bool)
     → nine ≡ benchesOf kind (lengthsOf first) second sums tallies
     → (v : Verdict)
     → v ≡ firstDue (handedIn nine (goodParity time) kind s first)
-    → (d : Desk)
+    → (d : DeskIn F)
     → d .first ≡ first
     → Measured d second sums tallies
     → v ≡ refinementVerdict kind s d time
 unfolding refinementVerdict
-told kind s time first second sums tallies nine q v h d e m =
+told {F} kind s time first second sums tallies nine q v h d e m =
     h
-    ∙ sym (ap₂ (λ (nine : Bool) (b : Bench). firstDue (handedIn nine (goodParity time) kind s b))
+    ∙ sym (ap₂ (λ (nine : Bool) (b : BenchIn F). firstDue (handedIn nine (goodParity time) kind s b))
     (benches-lengths kind d
-    ∙ ap (λ (b : Bench). benchesOf kind (lengthsOf b) (lengthsOf (d .second)) (length (d .sums)) (length (d .tallies))) e
+    ∙ ap (λ (b : BenchIn F). benchesOf kind (lengthsOf b) (lengthsOf (d .second)) (length (d .sums)) (length (d .tallies))) e
     ∙ ap (λ (l : Lengths). benchesOf kind (lengthsOf first) l (length (d .sums)) (length (d .tallies))) (m .bench)
     ∙ ap₂ (benchesOf kind (lengthsOf first) second) (m .sum) (m .tally)
     ∙ sym q)
@@ -225,8 +192,8 @@ corners-at words k corners n count e r p =
 pub elements-at : (words : List ℕ) (k corners n : ℕ) → k ≡ corners → Elements words corners n → Elements words k n
 elements-at words k corners n e h = rw e h
 
-pub marks-are : (r : Rows) (f l a v p : Bool)
-    → f ≡ every (λ (v : Vertex). goodFlags (v .flags)) (r .vertices)
+pub marks-are : {F : Form} (r : RowsIn F) (f l a v p : Bool)
+    → f ≡ every (λ (v : F .Vertex). goodFlags (F .flags v)) (r .vertices)
     → l ≡ every (λ (e : ElementRow). goodParity (e .parity)) (r .lines)
     → a ≡ every (λ (e : ElementRow). goodParity (e .parity)) (r .areas)
     → v ≡ every (λ (e : ElementRow). goodParity (e .parity)) (r .volumes)
@@ -235,7 +202,7 @@ pub marks-are : (r : Rows) (f l a v p : Bool)
 unfolding marksHold
 marks-are r f l a v p pf pl pa pv pp = rw (pf, pl, pa, pv, pp) refl
 
-pub numbers-are : (r : Rows) (count : ℕ) (p l a v s : Bool)
+pub numbers-are : {F : Form} (r : RowsIn F) (count : ℕ) (p l a v s : Bool)
     → p ≡ every (goodNumber count) (r .points)
     → l ≡ every (λ (e : ElementRow). every (goodNumber count) (e .corners)) (r .lines)
     → a ≡ every (λ (e : ElementRow). every (goodNumber count) (e .corners)) (r .areas)
@@ -247,7 +214,7 @@ numbers-are r count p l a v s pp pl pa pv ps = rw (pp, pl, pa, pv, ps) refl
 
 -- ---- the first that is due
 
-module _ (kind : Kind) (s : Sizes) (b : Bench) (nine five : Bool) where
+module _ {F : Form} (kind : Kind) (s : Sizes) (b : BenchIn F) (nine five : Bool) where
   pub due-counts : countsHold kind s b ≡ false → refused 9 ≡ firstDue (handedIn nine five kind s b)
   unfolding firstDue handedIn
   due-counts p = rw p refl

@@ -7,12 +7,13 @@ use lib.Dec.{eqb}
 use lib.ListN.{length}
 use Rattle.geom.specs.declared.answer.Sizes.{Sizes}
 use Rattle.geom.specs.Book as Book
-use Rattle.geom.specs.Memory.{Bench, areaCorners, volumeCorners}
+use Rattle.geom.specs.Form.{Form}
+use Rattle.geom.specs.Memory.{BenchIn, areaCorners, volumeCorners}
 use Rattle.geom.specs.Refinement.{within}
 use Rattle.judge.specs.declared.counts.Lengths.{Lengths}
 
 -- the lengths of a bench's slices
-abbrev pub lengthsOf : Bench → Lengths
+abbrev pub lengthsOf : {F : Form} → BenchIn F → Lengths
 lengthsOf b =
     record {
       positions = length (b .positions);

@@ -8,15 +8,17 @@ use lib.Ieee.{Float}
 use lib.ListN.{length}
 use Rattle.geom.specs.declared.answer.Sizes.{Sizes}
 use Rattle.geom.specs.Book.{Kind}
-use Rattle.geom.specs.Memory.{Bench, areaCorners, volumeCorners}
-use Rattle.geom.specs.Refusals.{Desk}
+use Rattle.geom.specs.Form.{Form}
+use Rattle.geom.specs.Floats.{binary32}
+use Rattle.geom.specs.Memory.{BenchIn, Bench, areaCorners, volumeCorners}
+use Rattle.geom.specs.Refusals.{DeskIn}
 use Rattle.judge.specs.declared.counts.Lengths.{Lengths}
 use Rattle.judge.specs.Words.{Elements, Parts}
 use Rattle.judge.specs.Counts.{lengthsOf}
 
 -- the slices of a bench
-abbrev pub bench : List Float → List ℕ → List ℕ → List ℕ → List ℕ → List ℕ → List ℕ → List ℕ → Bench
-bench positions marks points lines areas volumes curves steps =
+abbrev pub benchIn : (F : Form) → List (F .Coordinate) → List ℕ → List ℕ → List ℕ → List ℕ → List ℕ → List ℕ → List ℕ → BenchIn F
+benchIn F positions marks points lines areas volumes curves steps =
     record {
       positions = positions;
       marks = marks;
@@ -28,8 +30,11 @@ bench positions marks points lines areas volumes curves steps =
       curveVertices = steps;
     }
 
+abbrev pub bench : List Float → List ℕ → List ℕ → List ℕ → List ℕ → List ℕ → List ℕ → List ℕ → Bench
+bench = benchIn binary32
+
 -- a desk's second bench and smoothing's cells have the lengths that are told
-pub record Measured (d : Desk) (second : Lengths) (sums tallies : ℕ) : Type 0 where
+pub record Measured {F : Form} (d : DeskIn F) (second : Lengths) (sums tallies : ℕ) : Type 0 where
   pub bench : lengthsOf (d .second) ≡ second
   pub sum : length (d .sums) ≡ sums
   pub tally : length (d .tallies) ≡ tallies

@@ -2,14 +2,14 @@
 ghost use mathlib.Core.Path.{_≡_};
 ghost use mathlib.Core.List.{List};
 ghost use Prim.Native.Nat.{ℕ};
-ghost use lib.Ieee.{Float};
 ghost use lib.ListN.{length};
 ghost use Rattle.geom.specs.Answers.{verdictOf, firstDue};
 ghost use Rattle.geom.specs.Kinds.{kindOf};
-ghost use Rattle.geom.specs.Memory.{Bench, rowsOf};
+ghost use Rattle.geom.specs.Forms.{Numbers, form};
+ghost use Rattle.geom.specs.Memory.{BenchIn, rowsOf};
 ghost use Rattle.geom.specs.Refusals.{Desk, marksHold, numbersHold, countsHold, handedIn, refinementVerdict};
 ghost use Rattle.judge.specs.Counts.{lengthsOf};
-ghost use Rattle.judge.specs.Judged.{bench, Measured, Marked, Numbered};
+ghost use Rattle.judge.specs.Judged.{bench, benchIn, Measured, Marked, Numbered};
 use crate::counts::Lengths;
 use crate::counts::area_corners;
 use crate::counts::benches_hold;
@@ -33,7 +33,7 @@ use geom::kind::Kind;
 // 9: no list counts more entries than its lent cells, and the curves' lengths add up to the curve vertices.
 pub fn counts_hold(kind: Kind, sizes: Sizes, first: Lengths, curves: &[u32]) -> bool
     requires { ⌜ first .curves ≡ length (now curves) ⌝ }
-    ensures { λ r. ⌜ ((b : Bench) → lengthsOf b ≡ first → b .curves ≡ now (curves .entry) → r ≡ countsHold (kindOf kind) sizes b) ⌝ }
+    ensures { λ r. ⌜ ((n : Numbers) (b : BenchIn (form n)) → lengthsOf b ≡ first → b .curves ≡ now (curves .entry) → r ≡ countsHold (kindOf kind) sizes b) ⌝ }
 {
     let lent = cells(kind, first);
     if !within(sizes, lent) {
@@ -54,7 +54,7 @@ pub fn marks_hold(
     steps: &[u32],
 ) -> bool
     requires { ⌜ Marked (kindOf kind) sizes (now marks) (now lines) (now areas) (now volumes) (now curves) (now steps) ⌝ }
-    ensures { λ r. ⌜ ((positions : List Float) (points : List ℕ) → r ≡ marksHold (rowsOf (kindOf kind) sizes (bench positions (now (marks .entry)) points (now (lines .entry)) (now (areas .entry)) (now (volumes .entry)) (now (curves .entry)) (now (steps .entry))))) ⌝ }
+    ensures { λ r. ⌜ ((n : Numbers) (positions : List (form n .Coordinate)) (points : List ℕ) → r ≡ marksHold (rowsOf (kindOf kind) sizes (benchIn (form n) positions (now (marks .entry)) points (now (lines .entry)) (now (areas .entry)) (now (volumes .entry)) (now (curves .entry)) (now (steps .entry))))) ⌝ }
 {
     if !flags_hold(marks, sizes.vertices) {
         return false;
@@ -82,7 +82,7 @@ pub fn numbers_hold(
     steps: &[u32],
 ) -> bool
     requires { ⌜ Numbered (kindOf kind) sizes (now points) (now lines) (now areas) (now volumes) (now steps) ⌝ }
-    ensures { λ r. ⌜ ((positions : List Float) (marks curves : List ℕ) → r ≡ numbersHold (sizes .vertices) (rowsOf (kindOf kind) sizes (bench positions marks (now (points .entry)) (now (lines .entry)) (now (areas .entry)) (now (volumes .entry)) curves (now (steps .entry))))) ⌝ }
+    ensures { λ r. ⌜ ((n : Numbers) (positions : List (form n .Coordinate)) (marks curves : List ℕ) → r ≡ numbersHold (sizes .vertices) (rowsOf (kindOf kind) sizes (benchIn (form n) positions marks (now (points .entry)) (now (lines .entry)) (now (areas .entry)) (now (volumes .entry)) curves (now (steps .entry))))) ⌝ }
 {
     let count = sizes.vertices;
     if !points_hold(points, sizes.points, count) {

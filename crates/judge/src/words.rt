@@ -4,10 +4,10 @@ ghost use mathlib.Core.Path.{_≡_};
 ghost use mathlib.Core.List.{List};
 ghost use Prim.Native.Nat.{ℕ, _+_, _*_, _≤_, _<_};
 ghost use lib.Dec.{eqb};
-ghost use lib.Ieee.{Float};
 ghost use lib.ListN.{length, getD, take, drop};
 ghost use Rattle.geom.specs.declared.vertex.Vertex.{Vertex};
-ghost use Rattle.geom.specs.Memory.{ElementRow, StepRow, firstOf, vertexRow, elementRow, curveRow, stepRow, stepWords, curveParts};
+ghost use Rattle.geom.specs.Forms.{Numbers, form};
+ghost use Rattle.geom.specs.Memory.{ElementRow, StepRow, firstOf, vertexRow, vertexRowIn, elementRow, curveRow, stepRow, stepWords, curveParts};
 ghost use Rattle.geom.specs.Refusals.{every, goodFlags, goodParity, goodCoordinate, goodPosition, goodNumber, goodCurve, curveLengths};
 ghost use Rattle.judge.specs.Words.{columnBelow, wordsBelow, Column, Elements, Parts};
 use geom::words::number;
@@ -55,7 +55,7 @@ fn all_below(words: &[u32], end: usize, bound: usize) -> bool
 // 5: each vertex has a flag byte of at most 15.
 pub fn flags_hold(marks: &[u32], vertices: usize) -> bool
     requires { ⌜ 3 * vertices ≤ length (now marks) ⌝ }
-    ensures { λ r. ⌜ ((positions : List Float) → r ≡ every (λ (v : Vertex). goodFlags (v .flags)) (firstOf (vertexRow positions (now (marks .entry))) vertices)) ⌝ }
+    ensures { λ r. ⌜ ((n : Numbers) (positions : List (form n .Coordinate)) → r ≡ every (λ (v : form n .Vertex). goodFlags (form n .flags v)) (firstOf (vertexRowIn (form n) positions (now (marks .entry))) vertices)) ⌝ }
 {
     column_below(marks, 3, 0, vertices, 16)
 }

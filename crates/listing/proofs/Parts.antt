@@ -11,7 +11,7 @@ use lib.ListN.{length, getD, take, drop}
 use Rattle.numbers.specs.Binary32 as Binary32
 use Rattle.geom.specs.declared.parity.Parity.{Parity}
 use Rattle.geom.specs.Listing.{SPACE, NEWLINE, decimal, hexadecimal, spaced, bits, numbers, letter, vertexLine, pointLine, elementLine, curveLine}
-use Rattle.geom.specs.Memory.{firstOf, vertexRow, elementRow, elementOf, parityOf}
+use Rattle.geom.specs.Memory.{firstOf, fourRow, vertexRowIn, elementRow, elementOf, parityOf}
 use Rattle.geom.specs.Refusals.{curveLengths}
 use Rattle.judge.specs.Words.{wordAt, Column}
 use Rattle.geom.proofs.Rows.{flatMap-append, firstOf-same}
@@ -38,7 +38,7 @@ regroup a x y z w e = simp append-assoc
 pub vertex-parts :
     (positions : List Float) (i : ℕ)
     → vertexText positions i ≡ joined ((118 ∷ []) ∷ spaced (decimal i) ∷ together (coordinateText positions (4 * i)) 4 ∷ (NEWLINE ∷ []) ∷ [])
-unfolding joined together vertexLine vertexRow
+unfolding joined together vertexLine vertexRowIn fourRow
 vertex-parts positions i =
     let at : ℕ → List ℕ = λ k. bits (getD positions k Binary32.zero) in
     let front : List ℕ = 118 ∷ spaced (decimal i) in

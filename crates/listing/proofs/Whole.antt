@@ -10,7 +10,7 @@ use Rattle.geom.specs.declared.answer.Sizes.{Sizes}
 use Rattle.geom.specs.declared.vertex.Vertex.{Vertex}
 use Rattle.geom.specs.Book.{Kind}
 use Rattle.geom.specs.Listing.{PASSES, REFUSED, AFTER, NEWLINE, spaced, decimal, listing, refusal, vertexLine, vertexLines, pointLine, elementLine, curveLine}
-use Rattle.geom.specs.Memory.{areaCorners, volumeCorners, firstOf, vertexRow, elementRow, elementOf, curveRow, stepRow, curvesOf, rowsOf, meshOf}
+use Rattle.geom.specs.Memory.{areaCorners, volumeCorners, firstOf, vertexRow, fourRow, vertexRowIn, elementRow, elementOf, curveRow, stepRow, curvesOf, rowsOf, meshOf}
 use Rattle.geom.proofs.Rows.{length-firstOf, map-firstOf}
 use Rattle.judge.specs.Words.{Parts}
 use Rattle.judge.specs.Judged.{bench}
@@ -36,7 +36,7 @@ vertices-snoc k (u ∷ vs) v =
 
 vertices-together :
     (positions : List Float) (marks : List ℕ) (n : ℕ) → vertexLines 0 (firstOf (vertexRow positions marks) n) ≡ together (vertexText positions) n
-unfolding firstOf vertexLines together vertexLine vertexRow
+unfolding firstOf vertexLines together vertexLine vertexRowIn fourRow
 vertices-together positions marks zero = refl
 vertices-together positions marks (suc n) =
     let e : 0 + length (firstOf (vertexRow positions marks) n) ≡ n = omega (arith, length-firstOf (vertexRow positions marks) n) in

@@ -18,11 +18,12 @@ use Rattle.numbers.specs.declared.vec3.Vec3.{Vec3}
 use Rattle.numbers.specs.declared.vec4.Vec4.{Vec4}
 use Rattle.geom.specs.declared.vertex.Vertex.{Vertex}
 use Rattle.geom.specs.Elements.{Element}
-use Rattle.geom.specs.Memory.{firstOf}
+use Rattle.geom.specs.Floats.{points4}
+use Rattle.geom.specs.Memory.{firstOf, fourRow}
 use Rattle.geom.specs.Normals.{toCorners, gather3, gather4, origin3}
 use Rattle.vertices.specs.Cells.{positionWords, pointRow, verticesOf, elementsOf, Elements}
 use Rattle.vertices.proofs.Written.{getD-sets-past}
-use Rattle.vertices.proofs.Gathering.{getD-sets-at, other-row, point-same, point-other, elements-more}
+use Rattle.vertices.proofs.Gathering.{getD-sets-at, other-row, four-same, four-other, elements-more}
 use Rattle.normals.specs.Cells.{elementAt, vectorWords, vectorRow, Cleared, Holds, Three, Four, areaStep, volumeStep}
 
 -- ---- the first words cleared
@@ -101,7 +102,7 @@ vectors =
         λ i. record { x = x i; y = y i; z = z i }
 
 pub points : Reads pointRow positionWords 4 Points4.origin
-unfolding pointRow Points4.origin
+unfolding fourRow Points4.origin
 points =
     record {
       wide = λ p. refl;
@@ -123,8 +124,8 @@ points =
   where
     go : (l : List Float) (v : ℕ) (p : Vec4) → 4 * v + 4 ≤ length l → (u : ℕ) (b : Bool) → eqb v u ≡ b
         → pointRow (sets l (4 * v) (positionWords p)) u ≡ cond b p (pointRow l u)
-    go l v p h u true q = subst (λ (k : ℕ). pointRow (sets l (4 * v) (positionWords p)) k ≡ p) (eqb-true v u q) (point-same l v p h)
-    go l v p h u false q = point-other l v u p (eqb-false v u q)
+    go l v p h u true q = subst (λ (k : ℕ). pointRow (sets l (4 * v) (positionWords p)) k ≡ p) (eqb-true v u q) (four-same points4 l v p h)
+    go l v p h u false q = four-other points4 l v p u (eqb-false v u q)
 
 -- ---- an element's corners, one by one
 

@@ -20,6 +20,7 @@ use Rattle.geom.specs.Elements.{Element}
 use Rattle.geom.specs.Memory.{elementRow, elementOf, parityOf}
 use Rattle.geom.specs.Normals.{sign, toCorners, xyz, areaNormal, threeCorners, axis, volumeNormal}
 use Rattle.vertices.specs.Cells.{pointRow, verticesOf, Elements}
+use Rattle.geom.specs.Floats as Floats
 use Rattle.vertices.proofs.Gathering.{part-more, position-of}
 use Rattle.normals.specs.Cells.{elementAt, vectorRow, Holds, Three, Four, areaStep, products, firstAxes, secondAxes, thirdAxes, crossProducts, minorsOf, signsOf, volumeStep}
 
@@ -69,9 +70,9 @@ module _ (positions : List Float) (count : ℕ) (p : Parity) (marks : List ℕ) 
       → r ≡ areaNormal (verticesOf positions marks count) (record { corners = a ∷ b ∷ c ∷ []; parity = p })
   unfolding areaNormal
   area-is a b c t v₁ v₂ v₃ d₁ d₂ n r k e₁ e₂ e₃ f₁ f₂ en ek er =
-      let x = e₁ ∙ ap xyz (sym (position-of positions marks count a (t .first))) in
-      let y = e₂ ∙ ap xyz (sym (position-of positions marks count b (t .second))) in
-      let z = e₃ ∙ ap xyz (sym (position-of positions marks count c (t .third))) in
+      let x = e₁ ∙ ap xyz (sym (position-of Floats.binary32 positions marks count a (t .first))) in
+      let y = e₂ ∙ ap xyz (sym (position-of Floats.binary32 positions marks count b (t .second))) in
+      let z = e₃ ∙ ap xyz (sym (position-of Floats.binary32 positions marks count c (t .third))) in
       er ∙ ap₂ Points3.scaled ek (en ∙ ap₂ Points3.cross (f₁ ∙ ap₂ Points3.difference y x) (f₂ ∙ ap₂ Points3.difference z y))
 
   pub volume-is : (a b c d : ℕ) → Four a b c d count → (o v₁ v₂ v₃ d₁ d₂ d₃ n k r : Vec4)
@@ -81,10 +82,10 @@ module _ (positions : List Float) (count : ℕ) (p : Parity) (marks : List ℕ) 
       → r ≡ volumeNormal (verticesOf positions marks count) (record { corners = a ∷ b ∷ c ∷ d ∷ []; parity = p })
   unfolding volumeNormal minorsOf
   volume-is a b c d t o v₁ v₂ v₃ d₁ d₂ d₃ n k r eo e₁ e₂ e₃ f₁ f₂ f₃ en ek er =
-      let w = eo ∙ sym (position-of positions marks count a (t .first)) in
-      let x = f₁ ∙ ap₂ Points4.difference (e₁ ∙ sym (position-of positions marks count b (t .second))) w in
-      let y = f₂ ∙ ap₂ Points4.difference (e₂ ∙ sym (position-of positions marks count c (t .third))) w in
-      let z = f₃ ∙ ap₂ Points4.difference (e₃ ∙ sym (position-of positions marks count d (t .fourth))) w in
+      let w = eo ∙ sym (position-of Floats.binary32 positions marks count a (t .first)) in
+      let x = f₁ ∙ ap₂ Points4.difference (e₁ ∙ sym (position-of Floats.binary32 positions marks count b (t .second))) w in
+      let y = f₂ ∙ ap₂ Points4.difference (e₂ ∙ sym (position-of Floats.binary32 positions marks count c (t .third))) w in
+      let z = f₃ ∙ ap₂ Points4.difference (e₃ ∙ sym (position-of Floats.binary32 positions marks count d (t .fourth))) w in
       er ∙ ap₂ products ek (en ∙ (λ i. minorsOf (x i) (y i) (z i))) ∙ signed p (minorsOf _ _ _)
 
 -- ---- the element that the words stand for

@@ -6,18 +6,17 @@ use mathlib.Core.Logic.{⊎-elim}
 use mathlib.Core.List.{List, [], _∷_, map}
 use Prim.Native.Nat.{ℕ, suc, _+_, _≤_, _<_}
 use native.Mathlib.Omega.{arith}
-use lib.Ieee.{Float}
 use lib.ListN.{length, getD, drop, length-append, length-drop, length-map}
-use Rattle.geom.specs.declared.vertex.Vertex.{Vertex}
+use Rattle.geom.specs.Form.{Form}
 use Rattle.geom.specs.declared.answer.Sizes.{Sizes}
 use Rattle.geom.specs.Book.{Kind, Book, each}
 use Rattle.geom.specs.Elements.{Curve, Lists}
 use Rattle.geom.specs.Rules.{curveFrom, curve, Went, passBy}
-use Rattle.geom.specs.Vertices.{pairVertex}
-use Rattle.geom.specs.Smoothing.{withMidpoints, settledFrom, smoothed}
+use Rattle.geom.specs.Vertices.{pairIn}
+use Rattle.geom.specs.Smoothing.{withMidpointsIn, settledFromIn, smoothedIn}
 use Rattle.geom.specs.Mesh.{curveVertices, sizesOf}
-use Rattle.geom.specs.Memory.{Bench, firstOf, vertexRow, curveRow, stepRow, rowsOf, meshOf}
-use Rattle.geom.specs.Refinement.{State, passOver, fits}
+use Rattle.geom.specs.Memory.{BenchIn, firstOf, vertexRowIn, curveRow, stepRow, rowsOf, meshOf}
+use Rattle.geom.specs.Refinement.{StateIn, passOver, fits}
 use Rattle.geom.proofs.Stated.{length-rows}
 use Rattle.geom.proofs.Left.{went}
 use Rattle.geom.proofs.Books.{Grown}
@@ -30,17 +29,17 @@ use Rattle.pass.proofs.Fitting.{false-unless, fits-facts}
 
 -- ---- numbers of entries
 
-pub length-smoothed : (kind : Kind) (time : Bool) (l : Lists) (vs : List Vertex) → length (smoothed kind time l vs) ≡ length vs
-unfolding smoothed settledFrom
-length-smoothed kind time l vs = go 0 vs
+pub length-smoothed : (F : Form) (kind : Kind) (time : Bool) (l : Lists) (vs : List (F .Vertex)) → length (smoothedIn F kind time l vs) ≡ length vs
+unfolding smoothedIn settledFromIn
+length-smoothed F kind time l vs = go 0 vs
   where
-    go : (n : ℕ) (xs : List Vertex) → length (settledFrom kind time l vs n xs) ≡ length xs
+    go : (n : ℕ) (xs : List (F .Vertex)) → length (settledFromIn F kind time l vs n xs) ≡ length xs
     go n [] = refl
     go n (x ∷ xs) = ap suc (go (suc n) xs)
 
-pub length-made : (vs : List Vertex) (new : Book) → length (withMidpoints vs new) ≡ length vs + length new
-unfolding withMidpoints
-length-made vs new = length-append vs (map (pairVertex vs) new) ∙ ap (λ (n : ℕ). length vs + n) (length-map new (pairVertex vs))
+pub length-made : (F : Form) (vs : List (F .Vertex)) (new : Book) → length (withMidpointsIn F vs new) ≡ length vs + length new
+unfolding withMidpointsIn
+length-made F vs new = length-append vs (map (pairIn F vs) new) ∙ ap (λ (n : ℕ). length vs + n) (length-map new (pairIn F vs))
 
 -- a curve stays one curve
 length-curves : (kind : Kind) (base : ℕ) (cs : List Curve) (book : Book) → length (each (curve kind base) book cs .made) ≡ length cs
@@ -57,19 +56,19 @@ length-curves kind base (c ∷ cs) book =
 -- ---- the next state
 
 -- the lists' slices of a bench
-abbrev pub slicesOf : Bench → Slices
+abbrev pub slicesOf : {F : Form} → BenchIn F → Slices
 slicesOf b = slices (b .lines) (b .areas) (b .volumes) (b .curves) (b .curveVertices)
 
-module _ (kind : Kind) (base : ℕ) (s : Sizes) (a : Bench) (book : List ℕ) (made : ℕ) where
-  abbrev pub next : Bool → State
+module _ {F : Form} (kind : Kind) (base : ℕ) (s : Sizes) (a : BenchIn F) (book : List ℕ) (made : ℕ) where
+  abbrev pub next : Bool → StateIn F
   next time = passOver kind time base (stateOf kind s a book made)
 
   abbrev pub w : Went
   w = passed kind base s (slicesOf a) book made
 
   -- the vertices before the pass, and the pairs that it adds
-  abbrev pub olds : List Vertex
-  olds = firstOf (vertexRow (a .positions) (a .marks)) (s .vertices)
+  abbrev pub olds : List (F .Vertex)
+  olds = firstOf (vertexRowIn F (a .positions) (a .marks)) (s .vertices)
 
   abbrev pub news : Book
   news = drop (length (pairsOf book made)) (w .book)
@@ -94,10 +93,10 @@ module _ (kind : Kind) (base : ℕ) (s : Sizes) (a : Bench) (book : List ℕ) (m
     pub longer : made ≤ length (w .book)
     longer = omega (arith, ap length (added .is), length-append (pairsOf book made) (added .more), length-book)
 
-    pub next-count : length (withMidpoints olds news) ≡ base + length (w .book)
+    pub next-count : length (withMidpointsIn F olds news) ≡ base + length (w .book)
     next-count =
-        length-made olds news
-        ∙ omega (arith, length-firstOf (vertexRow (a .positions) (a .marks)) (s .vertices), length-drop (length (pairsOf book made)) (w .book), length-book, longer, h .count)
+        length-made F olds news
+        ∙ omega (arith, length-firstOf (vertexRowIn F (a .positions) (a .marks)) (s .vertices), length-drop (length (pairsOf book made)) (w .book), length-book, longer, h .count)
 
     pub next-sizes :
         (time : Bool)
@@ -115,7 +114,7 @@ module _ (kind : Kind) (base : ℕ) (s : Sizes) (a : Bench) (book : List ℕ) (m
     next-sizes time =
         λ i.
         record {
-          vertices = (length-smoothed kind time (w .lists) (withMidpoints olds news) ∙ next-count) i;
+          vertices = (length-smoothed F kind time (w .lists) (withMidpointsIn F olds news) ∙ next-count) i;
           points = length-firstOf (λ (j : ℕ). getD (a .points) j 0) (s .points) i;
           lines = length (w .lists .lines);
           areas = length (w .lists .areas);
@@ -126,7 +125,7 @@ module _ (kind : Kind) (base : ℕ) (s : Sizes) (a : Bench) (book : List ℕ) (m
 
     -- what bursts the bounds doesn't fit what is lent
     pub bursts :
-        (time : Bool) {room : ℕ} {c : Sizes} {b : Bench} {sums : List Float} {tallies : List ℕ} → Lends kind base room c a b book sums tallies → Bursts room c w
+        (time : Bool) {room : ℕ} {c : Sizes} {b : BenchIn F} {sums : List (F .Cell)} {tallies : List ℕ} → Lends kind base room c a b book sums tallies → Bursts room c w
         → fits (lentOf kind a book) (next time) ≡ false
     unfolding passOver meshOf rowsOf
     bursts time {room} {c} l x =

@@ -6,13 +6,13 @@ use Prim.Native.Nat.{ℕ, zero, suc, _+_, _-_, _*_, _/_, _≤_, _<_, min}
 use native.Mathlib.Nat.{mul-suc, mul-comm, add-zero, le-div-iff-mul-le, zero-lt-suc}
 use native.Mathlib.Omega.{arith}
 use lib.Dec.{eqb}
-use lib.Ieee.{Float}
 use lib.ListN.{length, getD, drop, length-append, List·getD-append}
 use lib.Seq.{getD-append-add}
 use Rattle.geom.specs.declared.answer.Sizes.{Sizes}
 use Rattle.geom.specs.Book.{Kind, cubes, simplices, pair, Book}
 use Rattle.geom.specs.Elements.{Element}
-use Rattle.geom.specs.Memory.{Bench, areaCorners, volumeCorners, cells, firstOf, curveRow, rowsOf, meshOf, parityWord, elementWords, over}
+use Rattle.geom.specs.Form.{Form}
+use Rattle.geom.specs.Memory.{BenchIn, areaCorners, volumeCorners, cells, firstOf, curveRow, rowsOf, meshOf, parityWord, elementWords, over}
 use Rattle.geom.specs.Refusals.{curveLengths, countsHold}
 use Rattle.geom.specs.Refinement.{LIMIT, within}
 use Rattle.geom.proofs.Lists.{All, same-number, and-true-left, and-true-right}
@@ -22,7 +22,7 @@ use Rattle.geom.proofs.Well.{Proper, Good, pass-good}
 use Rattle.geom.proofs.Forming.{face-corners, volume-corners}
 use Rattle.book.specs.Cells as Book
 use Rattle.book.specs.Cells.{pairsOf, pairAt}
-use Rattle.judge.proofs.Verdicts.{Within, within-facts}
+use Rattle.geom.proofs.Within.{Within, within-facts}
 use Rattle.vertices.specs.Cells as Vertices
 use Rattle.lists.specs.Lists.{Slices, Given, Made}
 use Rattle.pass.specs.Benches.{stateOf, Held, Lends}
@@ -99,18 +99,18 @@ gathers-light simplices l a v x y z = omega arith
 
 -- ---- what holds between passes, as facts
 
-pub held-within : {kind : Kind} {base : ℕ} {s : Sizes} {a : Bench} {book : List ℕ} {made : ℕ} → Held kind base s a book made → Within s (cells kind a)
+pub held-within : {F : Form} {kind : Kind} {base : ℕ} {s : Sizes} {a : BenchIn F} {book : List ℕ} {made : ℕ} → Held kind base s a book made → Within s (cells kind a)
 unfolding countsHold
-held-within {kind} {s = s} {a = a} h =
+held-within {kind = kind} {s = s} {a = a} h =
     within-facts s (cells kind a) (and-true-left (within s (cells kind a)) (eqb (curveLengths (rowsOf kind s a .curves)) (s .«curve_vertices»)) (h .counts))
 
-pub held-sum : {kind : Kind} {base : ℕ} {s : Sizes} {a : Bench} {book : List ℕ} {made : ℕ} → Held kind base s a book made
+pub held-sum : {F : Form} {kind : Kind} {base : ℕ} {s : Sizes} {a : BenchIn F} {book : List ℕ} {made : ℕ} → Held kind base s a book made
     → curveLengths (firstOf (curveRow (a .curves)) (s .curves)) ≡ s .«curve_vertices»
 unfolding countsHold rowsOf
-held-sum {kind} {s = s} {a = a} h =
+held-sum {kind = kind} {s = s} {a = a} h =
     same-number _ _ (and-true-right (within s (cells kind a)) (eqb (curveLengths (rowsOf kind s a .curves)) (s .«curve_vertices»)) (h .counts))
 
-module _ {kind : Kind} {base room : ℕ} {s c : Sizes} {a b : Bench} {book : List ℕ} {made : ℕ} {sums : List Float} {tallies : List ℕ} (h : Held kind base s a book made) (l : Lends kind base room c a b book sums tallies) where
+module _ {F : Form} {kind : Kind} {base room : ℕ} {s c : Sizes} {a b : BenchIn F} {book : List ℕ} {made : ℕ} {sums : List (F .Cell)} {tallies : List ℕ} (h : Held kind base s a book made) (l : Lends kind base room c a b book sums tallies) where
   -- ---- the lists
 
   pub points-stand : s .points ≤ length (a .points)

@@ -6,45 +6,44 @@ use mathlib.Core.List.{List, [], _∷_, _++_, map, append-nil, append-assoc}
 use Prim.Native.Nat.{ℕ, zero, suc, _+_, _-_, _*_, _/_, min}
 use native.Mathlib.Nat.{add-zero}
 use native.Mathlib.Omega.{arith}
-use lib.Ieee.{Float}
 use lib.ListN.{length, getD, drop}
 use lib.Seq.{drop-at}
-use Rattle.geom.specs.declared.vertex.Vertex.{Vertex}
+use Rattle.geom.specs.Form.{Form}
 use Rattle.geom.specs.declared.answer.Sizes.{Sizes}
 use Rattle.geom.specs.Book.{Kind, Book}
 use Rattle.geom.specs.Elements.{Curve, Lists}
-use Rattle.geom.specs.Smoothing.{withMidpoints, smoothed}
+use Rattle.geom.specs.Smoothing.{withMidpointsIn, smoothedIn}
 use Rattle.geom.specs.Mesh.{sizesOf}
-use Rattle.geom.specs.Memory.{Bench, Rows, areaCorners, volumeCorners, cells, firstOf, elementRow, curveRow, stepRow, elementOf, curvesOf, rowsOf, meshOf, benchOf, over}
+use Rattle.geom.specs.Memory.{BenchIn, RowsIn, areaCorners, volumeCorners, cells, firstOf, elementRow, curveRow, stepRow, elementOf, curvesOf, rowsOf, meshOf, benchOf, over}
 use Rattle.geom.specs.Refusals.{every, goodFlags, countsHold, marksHold, StandsFor}
 use Rattle.geom.specs.Refinement.{LIMITS, passOver, fits, within}
 use Rattle.geom.proofs.Left.{went}
 use Rattle.geom.proofs.Lists.{All, and-true-left, and-true-right}
 use Rattle.geom.proofs.Rows.{length-firstOf, firstOf-same}
 use Rattle.geom.proofs.Back.{elements-own, curves-own}
-use Rattle.geom.proofs.Standing.{over-begins, Laid, Flagged, Formed, elements-read, curves-read, steps-read, stands}
+use Rattle.geom.proofs.Standing.{over-begins, Laid, FlaggedIn, Formed, elements-read, curves-read, steps-read, stands}
 use Rattle.geom.proofs.Forming.{rows-stepped, formed}
 use Rattle.geom.proofs.Well.{Good}
 use Rattle.book.specs.Cells.{pairsOf, pairAt}
-use Rattle.judge.proofs.Verdicts.{Within, within-facts}
+use Rattle.geom.proofs.Within.{Within, within-facts, within-holds}
 use Rattle.vertices.specs.Cells as Vertices
 use Rattle.lists.specs.Lists.{Slices, listsOf, pointsOf, Made}
 use Rattle.pass.specs.Benches.{stateOf, lentOf, Held, Lends, Onward}
-use Rattle.pass.proofs.Fitting.{within-holds, fits-holds}
+use Rattle.pass.proofs.Fitting.{fits-holds}
 use Rattle.pass.proofs.Next.{slicesOf, next, w, olds, news, curves-stay, length-book, next-sizes}
 use Rattle.pass.proofs.Ready.{held-within, bounded, entries-are, entries-grow, next-good}
 
 -- ---- flags that were judged
 
-every-flagged : (vs : List Vertex) → every (λ (v : Vertex). goodFlags (v .flags)) vs ≡ true → All Flagged vs
+every-flagged : (F : Form) (vs : List (F .Vertex)) → every (λ (v : F .Vertex). goodFlags (F .flags v)) vs ≡ true → All (FlaggedIn F) vs
 unfolding every
-every-flagged [] e = tt
-every-flagged (v ∷ vs) e =
-    let x = goodFlags (v .flags) in
-    let y = every (λ (v : Vertex). goodFlags (v .flags)) vs in
-    (and-true-left x y e, every-flagged vs (and-true-right x y e))
+every-flagged F [] e = tt
+every-flagged F (v ∷ vs) e =
+    let x = goodFlags (F .flags v) in
+    let y = every (λ (v : F .Vertex). goodFlags (F .flags v)) vs in
+    (and-true-left x y e, every-flagged F vs (and-true-right x y e))
 
-marks-flags : (r : Rows) → marksHold r ≡ true → every (λ (v : Vertex). goodFlags (v .flags)) (r .vertices) ≡ true
+marks-flags : {F : Form} (r : RowsIn F) → marksHold r ≡ true → every (λ (v : F .Vertex). goodFlags (F .flags v)) (r .vertices) ≡ true
 unfolding marksHold
 marks-flags r e = and-true-left _ _ (and-true-left _ _ (and-true-left _ _ (and-true-left _ _ e)))
 
@@ -59,7 +58,7 @@ firstOf-more {A} f m (suc n) =
     ∙ ap (λ (r : List A). r ++ f (m + n) ∷ []) (firstOf-more f m n)
     ∙ append-assoc (firstOf f m) (firstOf (λ (i : ℕ). f (m + i)) n) (f (m + n) ∷ [])
 
-module _ {kind : Kind} {base room : ℕ} {s c : Sizes} {a b : Bench} {book : List ℕ} {made : ℕ} {sums : List Float} {tallies : List ℕ} (h : Held kind base s a book made) (l : Lends kind base room c a b book sums tallies) {after : Slices} {book₂ : List ℕ} {t : Sizes} {e : ℕ} (m : Made base room s c (w kind base s a book made) (slicesOf b) after book₂ t e) where
+module _ {F : Form} {kind : Kind} {base room : ℕ} {s c : Sizes} {a b : BenchIn F} {book : List ℕ} {made : ℕ} {sums : List (F .Cell)} {tallies : List ℕ} (h : Held kind base s a book made) (l : Lends kind base room c a b book sums tallies) {after : Slices} {book₂ : List ℕ} {t : Sizes} {e : ℕ} (m : Made base room s c (w kind base s a book made) (slicesOf b) after book₂ t e) where
   pairs-are : Vertices.pairsFrom book₂ made (e - made) ≡ news kind base s a book made
   unfolding Vertices.pairsFrom Vertices.pairRow pairsOf
   pairs-are =
@@ -74,9 +73,9 @@ module _ {kind : Kind} {base room : ℕ} {s c : Sizes} {a b : Bench} {book : Lis
 
   -- ---- the next mesh, as it can be written and read back
 
-  flagged : All Flagged (olds kind base s a book made)
+  flagged : All (FlaggedIn F) (olds kind base s a book made)
   unfolding marksHold rowsOf
-  flagged = every-flagged (olds kind base s a book made) (marks-flags (rowsOf kind s a) (h .marks))
+  flagged = every-flagged F (olds kind base s a book made) (marks-flags (rowsOf kind s a) (h .marks))
 
   module _ (time : Bool) where
     next-formed : Formed kind (next kind base s a book made time .mesh)
@@ -168,18 +167,18 @@ module _ {kind : Kind} {base room : ℕ} {s c : Sizes} {a b : Bench} {book : Lis
         })
 
     -- what the vertex rules wrote
-    abbrev Wrote : List Float → List ℕ → Type 0
+    abbrev Wrote : List (F .Coordinate) → List ℕ → Type 0
     Wrote positions marks =
         (curves : List Curve)
-        → Vertices.Over (b .positions) (b .marks)
-        (smoothed kind time (Vertices.listsOf (after .lines) (t .lines) (areaCorners kind) (after .areas) (t .areas) (volumeCorners kind) (after .volumes) (t .volumes) curves)
-        (withMidpoints (olds kind base s a book made) (Vertices.pairsFrom book₂ made (e - made))))
+        → Vertices.OverIn F (b .positions) (b .marks)
+        (smoothedIn F kind time (Vertices.listsOf (after .lines) (t .lines) (areaCorners kind) (after .areas) (t .areas) (volumeCorners kind) (after .volumes) (t .volumes) curves)
+        (withMidpointsIn F (olds kind base s a book made) (Vertices.pairsFrom book₂ made (e - made))))
         positions
         marks
 
     -- the bench that is written
-    module _ {positions : List Float} {marks points : List ℕ} (v : Wrote positions marks) (p : points ≡ over (b .points) (pointsOf (a .points) (s .points))) where
-      abbrev other : Bench
+    module _ {positions : List (F .Coordinate)} {marks points : List ℕ} (v : Wrote positions marks) (p : points ≡ over (b .points) (pointsOf (a .points) (s .points))) where
+      abbrev other : BenchIn F
       other =
           record {
             positions = positions;
@@ -192,10 +191,10 @@ module _ {kind : Kind} {base room : ℕ} {s c : Sizes} {a b : Bench} {book : Lis
             curveVertices = after .steps;
           }
 
-      laid : Vertices.Over (b .positions) (b .marks) (smoothed kind time (w kind base s a book made .lists) (withMidpoints (olds kind base s a book made) (news kind base s a book made))) positions marks
+      laid : Vertices.OverIn F (b .positions) (b .marks) (smoothedIn F kind time (w kind base s a book made .lists) (withMidpointsIn F (olds kind base s a book made) (news kind base s a book made))) positions marks
       laid =
-          subst (λ (x : Book). Vertices.Over (b .positions) (b .marks) (smoothed kind time (w kind base s a book made .lists) (withMidpoints (olds kind base s a book made) x)) positions marks) pairs-are
-          (subst (λ (x : Lists). Vertices.Over (b .positions) (b .marks) (smoothed kind time x (withMidpoints (olds kind base s a book made) (Vertices.pairsFrom book₂ made (e - made)))) positions marks) lists-are
+          subst (λ (x : Book). Vertices.OverIn F (b .positions) (b .marks) (smoothedIn F kind time (w kind base s a book made .lists) (withMidpointsIn F (olds kind base s a book made) x)) positions marks) pairs-are
+          (subst (λ (x : Lists). Vertices.OverIn F (b .positions) (b .marks) (smoothedIn F kind time x (withMidpointsIn F (olds kind base s a book made) (Vertices.pairsFrom book₂ made (e - made)))) positions marks) lists-are
           (v (curvesOf (firstOf (curveRow (after .curves)) (t .curves)) (firstOf (stepRow (after .steps)) (t .«curve_vertices»)))))
 
       next-laid : Laid (next kind base s a book made time .mesh) other
@@ -246,7 +245,7 @@ module _ {kind : Kind} {base room : ℕ} {s c : Sizes} {a b : Bench} {book : Lis
 
 -- slices that keep their lengths keep their cells
 pub cells-same :
-    (kind : Kind) (x y : Bench) → length (x .positions) ≡ length (y .positions) → length (x .marks) ≡ length (y .marks) → length (x .points) ≡ length (y .points)
+    {F : Form} (kind : Kind) (x y : BenchIn F) → length (x .positions) ≡ length (y .positions) → length (x .marks) ≡ length (y .marks) → length (x .points) ≡ length (y .points)
     → length (x .lines) ≡ length (y .lines) → length (x .areas) ≡ length (y .areas) → length (x .volumes) ≡ length (y .volumes)
     → length (x .curves) ≡ length (y .curves) → length (x .curveVertices) ≡ length (y .curveVertices) → cells kind x ≡ cells kind y
 unfolding cells

@@ -5,13 +5,13 @@ use mathlib.Core.Path.{_≡_}
 use mathlib.Core.Bool.{true, false}
 use mathlib.Core.List.{List}
 use Prim.Native.Nat.{ℕ, _+_, _-_, _*_, _≤_, min}
-use lib.Ieee.{Float}
 use lib.ListN.{length}
 use Rattle.geom.specs.declared.answer.Sizes.{Sizes}
 use Rattle.geom.specs.Book.{Kind}
-use Rattle.geom.specs.Memory.{Bench, cells, rowsOf, meshOf}
+use Rattle.geom.specs.Form.{Form}
+use Rattle.geom.specs.Memory.{BenchIn, cells, rowsOf, meshOf}
 use Rattle.geom.specs.Refusals.{countsHold, marksHold}
-use Rattle.geom.specs.Refinement.{State, Lent, LIMIT, LIMITS, within, fits}
+use Rattle.geom.specs.Refinement.{StateIn, Lent, LIMIT, LIMITS, within, fits}
 use Rattle.geom.proofs.Well.{Good}
 use Rattle.geom.proofs.Left.{went}
 use Rattle.book.specs.Cells as Book
@@ -20,12 +20,12 @@ use Rattle.lists.specs.declared.Stage.{Stage}
 use Rattle.lists.specs.declared.Stage.the-variants.{Whole, Full}
 
 -- the state that a bench and the book's cells stand for
-abbrev pub stateOf : Kind → Sizes → Bench → List ℕ → ℕ → State
+abbrev pub stateOf : {F : Form} → Kind → Sizes → BenchIn F → List ℕ → ℕ → StateIn F
 stateOf kind s b book made = record { mesh = meshOf (rowsOf kind s b); book = pairsOf book made }
 
 -- what holds between passes: the lists stand in their cells and within the limit, their counts add up and their marks are in order, each entry of
 -- the book made one vertex, and every number is that of a vertex
-pub record Held (kind : Kind) (base : ℕ) (s : Sizes) (b : Bench) (book : List ℕ) (made : ℕ) : Type 0 where
+pub record Held {F : Form} (kind : Kind) (base : ℕ) (s : Sizes) (b : BenchIn F) (book : List ℕ) (made : ℕ) : Type 0 where
   pub counts : countsHold kind s b ≡ true
   pub marks : marksHold (rowsOf kind s b) ≡ true
   pub limits : within s LIMITS ≡ true
@@ -34,7 +34,7 @@ pub record Held (kind : Kind) (base : ℕ) (s : Sizes) (b : Bench) (book : List 
   pub good : Good kind base (went (stateOf kind s b book made))
 
 -- what a bench and the book's cells lend
-abbrev pub lentOf : Kind → Bench → List ℕ → Lent
+abbrev pub lentOf : {F : Form} → Kind → BenchIn F → List ℕ → Lent
 lentOf kind b book = record { cells = cells kind b; book = Book.cells book }
 
 -- how many entries the book may have: what its cells, the vertices' cells and the limit leave
@@ -55,7 +55,7 @@ capped s =
     }
 
 -- the two benches are equal, smoothing's cells are as many as the vertices', and the bounds are those of what is lent
-pub record Lends (kind : Kind) (base room : ℕ) (c : Sizes) (a b : Bench) (book : List ℕ) (sums : List Float) (tallies : List ℕ) : Type 0 where
+pub record Lends {F : Form} (kind : Kind) (base room : ℕ) (c : Sizes) (a b : BenchIn F) (book : List ℕ) (sums : List (F .Cell)) (tallies : List ℕ) : Type 0 where
   pub twin : cells kind a ≡ cells kind b
   pub sum : 4 * cells kind a .vertices ≤ length sums
   pub tally : 2 * cells kind a .vertices ≤ length tallies
@@ -63,12 +63,12 @@ pub record Lends (kind : Kind) (base room : ℕ) (c : Sizes) (a b : Bench) (book
   pub caps : c ≡ capped (cells kind a)
 
 -- the bench stands for the next state, which fits
-pub record Onward (kind : Kind) (base : ℕ) (lent : Lent) (next : State) (b : Bench) (book : List ℕ) (t : Sizes) (e : ℕ) : Type 0 where
+pub record Onward {F : Form} (kind : Kind) (base : ℕ) (lent : Lent) (next : StateIn F) (b : BenchIn F) (book : List ℕ) (t : Sizes) (e : ℕ) : Type 0 where
   pub held : Held kind base t b book e
   pub state : stateOf kind t b book e ≡ next
   pub fit : fits lent next ≡ true
 
 -- whole, or the next state doesn't fit
-abbrev pub Passed : Kind → ℕ → Lent → State → Bench → List ℕ → Stage → Type 0
+abbrev pub Passed : {F : Form} → Kind → ℕ → Lent → StateIn F → BenchIn F → List ℕ → Stage → Type 0
 Passed kind base lent next b book (Whole t e) = Onward kind base lent next b book t e
 Passed kind base lent next b book Full = fits lent next ≡ false

@@ -7,6 +7,7 @@ use cases::bench::widths;
 use cases::head::Apart;
 use cases::head::given;
 use geom::answer::Refined;
+use index::CELL;
 use subdivision::subdivide;
 
 // The entry, on benches that are cut already: cuts the book and smoothing's cells.
@@ -35,7 +36,7 @@ fn with_cells(
 ) -> Refined {
     let lent = case.lent;
     let sizes = case.sizes;
-    let b = cut(lent_of(apart, 17, 4 * given(case.book)), book);
+    let b = cut(lent_of(apart, 17, CELL * given(case.book)), book);
     let u = cut_numbers(lent_of(apart, 18, 4 * given(lent.vertices)), sums);
     let t = cut(lent_of(apart, 19, 2 * given(lent.vertices)), tallies);
     let kind = case.kind;

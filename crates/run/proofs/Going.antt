@@ -7,15 +7,15 @@ use mathlib.Core.List.{List}
 use Prim.Native.Nat.{ℕ, zero, suc, _+_, _-_, _%_, _≤_, _<_}
 use native.Mathlib.Omega.{arith}
 use lib.Dec.{eqb}
-use lib.Ieee.{Float}
 use lib.ListN.{length}
 use Rattle.geom.specs.declared.answer.Sizes.{Sizes}
 use Rattle.geom.specs.declared.answer.Refined.{Refined}
 use Rattle.geom.specs.Answers.{accepted, refused, told}
 use Rattle.geom.specs.Book.{Kind}
-use Rattle.geom.specs.Memory.{Bench, cells}
+use Rattle.geom.specs.Form.{Form}
+use Rattle.geom.specs.Memory.{BenchIn, cells}
 use Rattle.geom.specs.Refusals.{side, StandsFor}
-use Rattle.geom.specs.Refinement.{Lent, Run, passOver, fits, runFrom}
+use Rattle.geom.specs.Refinement.{Lent, RunIn, passOver, fits, runFrom}
 use Rattle.geom.proofs.Lists.{same-number}
 use Rattle.pass.specs.Benches.{stateOf, lentOf, Held, Lends, Onward}
 use Rattle.pass.proofs.Fitting.{false-unless}
@@ -25,11 +25,11 @@ use Rattle.run.proofs.Turning.{At, Ends, ends-done, ends-full, goes-on}
 
 -- ---- the two sides
 
-pub side-even : (n : ℕ) (x y : Bench) → n % 2 ≡ 0 → side n x y ≡ x
+pub side-even : {A : Type 0} (n : ℕ) (x y : A) → n % 2 ≡ 0 → side n x y ≡ x
 unfolding side
 side-even n x y e = ap (λ (m : ℕ). cond (eqb m 0) x y) e
 
-pub side-odd : (n : ℕ) (x y : Bench) → (n % 2 ≡ 0 → ⊥) → side n x y ≡ y
+pub side-odd : {A : Type 0} (n : ℕ) (x y : A) → (n % 2 ≡ 0 → ⊥) → side n x y ≡ y
 unfolding side
 side-odd n x y h = ap (λ (t : Bool). cond t x y) (false-unless (eqb (n % 2) 0) (λ e. h (same-number (n % 2) 0 e)))
 
@@ -41,7 +41,7 @@ odd-on n h = ⊎-elim (λ (e : n % 2 ≡ 0). absurd (h e)) (λ (l : 0 < n % 2). 
     zero-or-more (suc m) = inr (omega arith)
 
 -- slices keep their lengths
-pub record Same (x y : Bench) : Type 0 where
+pub record Same {F : Form} (x y : BenchIn F) : Type 0 where
   pub positions : length (x .positions) ≡ length (y .positions)
   pub marks : length (x .marks) ≡ length (y .marks)
   pub points : length (x .points) ≡ length (y .points)
@@ -51,11 +51,11 @@ pub record Same (x y : Bench) : Type 0 where
   pub curves : length (x .curves) ≡ length (y .curves)
   pub «curve_vertices» : length (x .curveVertices) ≡ length (y .curveVertices)
 
-pub same-cells : (kind : Kind) {x y : Bench} → Same x y → cells kind x ≡ cells kind y
+pub same-cells : {F : Form} (kind : Kind) {x y : BenchIn F} → Same x y → cells kind x ≡ cells kind y
 same-cells kind {x} {y} s =
     cells-same kind x y (s .positions) (s .marks) (s .points) (s .lines) (s .areas) (s .volumes) (s .curves) (s .«curve_vertices»)
 
-pub same-here : (x : Bench) → Same x x
+pub same-here : {F : Form} (x : BenchIn F) → Same x x
 same-here x =
     record {
       positions = refl;
@@ -68,7 +68,7 @@ same-here x =
       «curve_vertices» = refl;
     }
 
-pub same-on : {x y z : Bench} → Same x y → Same y z → Same x z
+pub same-on : {F : Form} {x y z : BenchIn F} → Same x y → Same y z → Same x z
 same-on s t =
     record {
       positions = s .positions ∙ t .positions;
@@ -83,9 +83,9 @@ same-on s t =
 
 -- ---- the loop
 
-module _ (kind : Kind) (time : Bool) (base room : ℕ) (c : Sizes) (depth : ℕ) (lent : Lent) (run : Run) where
+module _ {F : Form} (kind : Kind) (time : Bool) (base room : ℕ) (c : Sizes) (depth : ℕ) (lent : Lent) (run : RunIn F) where
   -- after n passes: the bench of the last whole pass stands for the state, and the slices have kept their lengths
-  pub record Going (first₀ second₀ : Bench) (book₀ : List ℕ) (sums₀ : List Float) (tallies₀ : List ℕ) (first second : Bench) (book : List ℕ) (sums : List Float) (tallies : List ℕ) (n : ℕ) (s : Sizes) (made : ℕ) : Type 0 where
+  pub record Going (first₀ second₀ : BenchIn F) (book₀ : List ℕ) (sums₀ : List (F .Cell)) (tallies₀ : List ℕ) (first second : BenchIn F) (book : List ℕ) (sums : List (F .Cell)) (tallies : List ℕ) (n : ℕ) (s : Sizes) (made : ℕ) : Type 0 where
     pub at : At kind time base room c depth lent run (side n first second) (side (n + 1) first second) book sums tallies n s made
     pub one : Same first first₀
     pub two : Same second second₀
@@ -93,21 +93,21 @@ module _ (kind : Kind) (time : Bool) (base room : ℕ) (c : Sizes) (depth : ℕ)
     pub sum : length sums ≡ length sums₀
     pub tally : length tallies ≡ length tallies₀
 
-  module _ (n : ℕ) {first second : Bench} {book : List ℕ} {sums : List Float} {tallies : List ℕ} {s : Sizes} {made : ℕ} where
+  module _ (n : ℕ) {first second : BenchIn F} {book : List ℕ} {sums : List (F .Cell)} {tallies : List ℕ} {s : Sizes} {made : ℕ} where
     -- the direction of an even pass, and of an odd one
     pub forth : n % 2 ≡ 0 → At kind time base room c depth lent run (side n first second) (side (n + 1) first second) book sums tallies n s made
         → At kind time base room c depth lent run first second book sums tallies n s made
     forth e g =
         let o : (n + 1) % 2 ≡ 0 → ⊥ = λ z. omega arith in
-        subst (λ (y : Bench). At kind time base room c depth lent run first y book sums tallies n s made) (side-odd (n + 1) first second o)
-        (subst (λ (x : Bench). At kind time base room c depth lent run x (side (n + 1) first second) book sums tallies n s made) (side-even n first second e) g)
+        subst (λ (y : BenchIn F). At kind time base room c depth lent run first y book sums tallies n s made) (side-odd (n + 1) first second o)
+        (subst (λ (x : BenchIn F). At kind time base room c depth lent run x (side (n + 1) first second) book sums tallies n s made) (side-even n first second e) g)
 
     pub back : (n % 2 ≡ 0 → ⊥) → At kind time base room c depth lent run (side n first second) (side (n + 1) first second) book sums tallies n s made
         → At kind time base room c depth lent run second first book sums tallies n s made
     back e g =
         let o : (n + 1) % 2 ≡ 0 = odd-on n e in
-        subst (λ (y : Bench). At kind time base room c depth lent run second y book sums tallies n s made) (side-even (n + 1) first second o)
-        (subst (λ (x : Bench). At kind time base room c depth lent run x (side (n + 1) first second) book sums tallies n s made) (side-odd n first second e) g)
+        subst (λ (y : BenchIn F). At kind time base room c depth lent run second y book sums tallies n s made) (side-even (n + 1) first second o)
+        (subst (λ (x : BenchIn F). At kind time base room c depth lent run x (side (n + 1) first second) book sums tallies n s made) (side-odd n first second e) g)
 
     -- and after it
     pub came-forth : n % 2 ≡ 0 → At kind time base room c depth lent run second first book sums tallies (n + 1) s made
@@ -115,19 +115,19 @@ module _ (kind : Kind) (time : Bool) (base room : ℕ) (c : Sizes) (depth : ℕ)
     came-forth e g =
         let o : (n + 1) % 2 ≡ 0 → ⊥ = λ z. omega arith in
         let p : (n + 1 + 1) % 2 ≡ 0 = omega arith in
-        subst (λ (y : Bench). At kind time base room c depth lent run (side (n + 1) first second) y book sums tallies (n + 1) s made) (sym (side-even (n + 1 + 1) first second p))
-        (subst (λ (x : Bench). At kind time base room c depth lent run x first book sums tallies (n + 1) s made) (sym (side-odd (n + 1) first second o)) g)
+        subst (λ (y : BenchIn F). At kind time base room c depth lent run (side (n + 1) first second) y book sums tallies (n + 1) s made) (sym (side-even (n + 1 + 1) first second p))
+        (subst (λ (x : BenchIn F). At kind time base room c depth lent run x first book sums tallies (n + 1) s made) (sym (side-odd (n + 1) first second o)) g)
 
     pub came-back : (n % 2 ≡ 0 → ⊥) → At kind time base room c depth lent run first second book sums tallies (n + 1) s made
         → At kind time base room c depth lent run (side (n + 1) first second) (side (n + 1 + 1) first second) book sums tallies (n + 1) s made
     came-back e g =
         let o : (n + 1) % 2 ≡ 0 = odd-on n e in
         let p : (n + 1 + 1) % 2 ≡ 0 → ⊥ = λ z. omega arith in
-        subst (λ (y : Bench). At kind time base room c depth lent run (side (n + 1) first second) y book sums tallies (n + 1) s made) (sym (side-odd (n + 1 + 1) first second p))
-        (subst (λ (x : Bench). At kind time base room c depth lent run x second book sums tallies (n + 1) s made) (sym (side-even (n + 1) first second o)) g)
+        subst (λ (y : BenchIn F). At kind time base room c depth lent run (side (n + 1) first second) y book sums tallies (n + 1) s made) (sym (side-odd (n + 1 + 1) first second p))
+        (subst (λ (x : BenchIn F). At kind time base room c depth lent run x second book sums tallies (n + 1) s made) (sym (side-even (n + 1) first second o)) g)
 
   -- the answer, from the side on which the run ended
-  pub ran : {r : Refined} (n : ℕ) (first second : Bench) → Ends kind time base room c depth lent run r (side n first second) n → Ran kind run r first second
+  pub ran : {r : Refined} (n : ℕ) (first second : BenchIn F) → Ends kind time base room c depth lent run r (side n first second) n → Ran kind run r first second
   ran n first second e =
       record {
         answer = e .answer;
@@ -136,7 +136,7 @@ module _ (kind : Kind) (time : Bool) (base room : ℕ) (c : Sizes) (depth : ℕ)
 
 -- before the first pass
 pub going-start :
-    (kind : Kind) (time : Bool) (base room : ℕ) (c : Sizes) (depth : ℕ) (first second : Bench) (book : List ℕ) (sums : List Float) (tallies : List ℕ) (s : Sizes)
+    {F : Form} (kind : Kind) (time : Bool) (base room : ℕ) (c : Sizes) (depth : ℕ) (first second : BenchIn F) (book : List ℕ) (sums : List (F .Cell)) (tallies : List ℕ) (s : Sizes)
     → Held kind base s first book 0 → Lends kind base room c first second book sums tallies
     → Going kind time base room c depth (lentOf kind first book) (runOf kind time (lentOf kind first book) base depth (stateOf kind s first book 0)) first second book sums tallies first second book sums tallies 0 s 0
 unfolding side
@@ -160,7 +160,7 @@ going-start kind time base room c depth first second book sums tallies s h l =
 
 -- ---- a turn in each direction
 
-module _ {kind : Kind} {time : Bool} {base room : ℕ} {c : Sizes} {depth : ℕ} {lent : Lent} {run : Run} {first₀ second₀ : Bench} {book₀ : List ℕ} {sums₀ : List Float} {tallies₀ : List ℕ} {first second : Bench} {book : List ℕ} {sums : List Float} {tallies : List ℕ} {n : ℕ} {s : Sizes} {made : ℕ} (g : Going kind time base room c depth lent run first₀ second₀ book₀ sums₀ tallies₀ first second book sums tallies n s made) where
+module _ {F : Form} {kind : Kind} {time : Bool} {base room : ℕ} {c : Sizes} {depth : ℕ} {lent : Lent} {run : RunIn F} {first₀ second₀ : BenchIn F} {book₀ : List ℕ} {sums₀ : List (F .Cell)} {tallies₀ : List ℕ} {first second : BenchIn F} {book : List ℕ} {sums : List (F .Cell)} {tallies : List ℕ} {n : ℕ} {s : Sizes} {made : ℕ} (g : Going kind time base room c depth lent run first₀ second₀ book₀ sums₀ tallies₀ first second book sums tallies n s made) where
   pub at-forth : n % 2 ≡ 0 → At kind time base room c depth lent run first second book sums tallies n s made
   at-forth e = forth kind time base room c depth lent run n e (g .at)
 
@@ -168,25 +168,25 @@ module _ {kind : Kind} {time : Bool} {base room : ℕ} {c : Sizes} {depth : ℕ}
   at-back e = back kind time base room c depth lent run n e (g .at)
 
   pub full-forth :
-      (second′ : Bench) (r : Refined) → n % 2 ≡ 0 → n < depth → fits (lentOf kind first book) (passOver kind time base (stateOf kind s first book made)) ≡ false
+      (second′ : BenchIn F) (r : Refined) → n % 2 ≡ 0 → n < depth → fits (lentOf kind first book) (passOver kind time base (stateOf kind s first book made)) ≡ false
       → told r ≡ record { passes = n; sizes = s; verdict = refused 10 } → Ran kind run r first second′
   full-forth second′ r e k f t =
       let x = ends-full kind time base room c depth lent run (at-forth e) k f r t in
-      ran kind time base room c depth lent run n first second′ (subst (λ (b : Bench). Ends kind time base room c depth lent run r b n) (sym (side-even n first second′ e)) x)
+      ran kind time base room c depth lent run n first second′ (subst (λ (b : BenchIn F). Ends kind time base room c depth lent run r b n) (sym (side-even n first second′ e)) x)
 
   pub full-back :
-      (first′ : Bench) (r : Refined) → (n % 2 ≡ 0 → ⊥) → n < depth → fits (lentOf kind second book) (passOver kind time base (stateOf kind s second book made)) ≡ false
+      (first′ : BenchIn F) (r : Refined) → (n % 2 ≡ 0 → ⊥) → n < depth → fits (lentOf kind second book) (passOver kind time base (stateOf kind s second book made)) ≡ false
       → told r ≡ record { passes = n; sizes = s; verdict = refused 10 } → Ran kind run r first′ second
   full-back first′ r e k f t =
       let x = ends-full kind time base room c depth lent run (at-back e) k f r t in
-      ran kind time base room c depth lent run n first′ second (subst (λ (b : Bench). Ends kind time base room c depth lent run r b n) (sym (side-odd n first′ second e)) x)
+      ran kind time base room c depth lent run n first′ second (subst (λ (b : BenchIn F). Ends kind time base room c depth lent run r b n) (sym (side-odd n first′ second e)) x)
 
   pub done : depth ≤ n → (r : Refined) → told r ≡ record { passes = n; sizes = s; verdict = accepted } → Ran kind run r first second
   done k r t = ran kind time base room c depth lent run n first second (ends-done kind time base room c depth lent run (g .at) k r t)
 
-  module _ {book′ : List ℕ} {sums′ : List Float} {tallies′ : List ℕ} {t : Sizes} {e : ℕ} (k : n < depth) (q : length book′ ≡ length book) (r : length sums′ ≡ length sums) (u : length tallies′ ≡ length tallies) where
+  module _ {book′ : List ℕ} {sums′ : List (F .Cell)} {tallies′ : List ℕ} {t : Sizes} {e : ℕ} (k : n < depth) (q : length book′ ≡ length book) (r : length sums′ ≡ length sums) (u : length tallies′ ≡ length tallies) where
     pub go-forth :
-        {second′ : Bench} → n % 2 ≡ 0 → Onward kind base (lentOf kind first book) (passOver kind time base (stateOf kind s first book made)) second′ book′ t e
+        {second′ : BenchIn F} → n % 2 ≡ 0 → Onward kind base (lentOf kind first book) (passOver kind time base (stateOf kind s first book made)) second′ book′ t e
         → Same second′ second → Going kind time base room c depth lent run first₀ second₀ book₀ sums₀ tallies₀ first second′ book′ sums′ tallies′ (n + 1) t e
     go-forth z o w =
         record {
@@ -199,7 +199,7 @@ module _ {kind : Kind} {time : Bool} {base room : ℕ} {c : Sizes} {depth : ℕ}
         }
 
     pub go-back :
-        {first′ : Bench} → (n % 2 ≡ 0 → ⊥) → Onward kind base (lentOf kind second book) (passOver kind time base (stateOf kind s second book made)) first′ book′ t e
+        {first′ : BenchIn F} → (n % 2 ≡ 0 → ⊥) → Onward kind base (lentOf kind second book) (passOver kind time base (stateOf kind s second book made)) first′ book′ t e
         → Same first′ first → Going kind time base room c depth lent run first₀ second₀ book₀ sums₀ tallies₀ first′ second book′ sums′ tallies′ (n + 1) t e
     go-back z o w =
         record {

@@ -6,15 +6,15 @@ use mathlib.Core.List.{List}
 use Prim.Native.Nat.{ℕ, suc, _+_, _-_, _/_, _≤_, _<_}
 use native.Mathlib.Omega.{arith}
 use native.Mathlib.Numerals.{add-one}
-use lib.Ieee.{Float}
 use lib.ListN.{length}
 use Rattle.geom.specs.declared.answer.Sizes.{Sizes}
 use Rattle.geom.specs.declared.answer.Refined.{Refined}
 use Rattle.geom.specs.Answers.{Verdict, accepted, refused, told}
 use Rattle.geom.specs.Book.{Kind}
-use Rattle.geom.specs.Memory.{Bench, cells, rowsOf, meshOf}
+use Rattle.geom.specs.Form.{Form}
+use Rattle.geom.specs.Memory.{BenchIn, cells, rowsOf, meshOf}
 use Rattle.geom.specs.Refusals.{countsHold, marksHold, StandsFor}
-use Rattle.geom.specs.Refinement.{State, Lent, Run, passOver, fits, runFrom, toldBy}
+use Rattle.geom.specs.Refinement.{StateIn, Lent, RunIn, passOver, fits, runFrom, toldBy}
 use Rattle.geom.proofs.Stated.{sizes-stated}
 use Rattle.book.specs.Cells as Book
 use Rattle.pass.specs.Benches.{stateOf, lentOf, roomOf, capped, Held, Lends, Onward}
@@ -23,7 +23,7 @@ use Rattle.pass.proofs.Ready.{held-sum}
 -- ---- what is lent stays
 
 pub lends-turned :
-    {kind : Kind} {base room : ℕ} {c : Sizes} {a b : Bench} {book : List ℕ} {sums : List Float} {tallies : List ℕ}
+    {F : Form} {kind : Kind} {base room : ℕ} {c : Sizes} {a b : BenchIn F} {book : List ℕ} {sums : List (F .Cell)} {tallies : List ℕ}
     → Lends kind base room c a b book sums tallies → Lends kind base room c b a book sums tallies
 lends-turned {base = base} {book = book} l =
     let v = ap (λ (z : Sizes). z .vertices) (l .twin) in
@@ -36,23 +36,23 @@ lends-turned {base = base} {book = book} l =
     }
 
 pub lends-kept :
-    {kind : Kind} {base room : ℕ} {c : Sizes} {a b b′ : Bench} {book book′ : List ℕ} {sums sums′ : List Float} {tallies tallies′ : List ℕ}
+    {F : Form} {kind : Kind} {base room : ℕ} {c : Sizes} {a b b′ : BenchIn F} {book book′ : List ℕ} {sums sums′ : List (F .Cell)} {tallies tallies′ : List ℕ}
     → Lends kind base room c a b book sums tallies → cells kind b′ ≡ cells kind b → length book′ ≡ length book → length sums′ ≡ length sums
     → length tallies′ ≡ length tallies → Lends kind base room c a b′ book′ sums′ tallies′
-lends-kept {kind} {base} {a = a} l p q r t =
+lends-kept {kind = kind} {base = base} {a = a} l p q r t =
     record {
       twin = l .twin ∙ sym p;
       sum = omega (arith, l .sum, r);
       tally = omega (arith, l .tally, t);
-      rooms = l .rooms ∙ ap (λ (n : ℕ). roomOf (record { cells = cells kind a; book = n / 4 }) base) (sym q);
+      rooms = l .rooms ∙ ap (λ (n : ℕ). roomOf (record { cells = cells kind a; book = n / Book.WORDS }) base) (sym q);
       caps = l .caps;
     }
 
 -- ---- a turn
 
-module _ (kind : Kind) (time : Bool) (base room : ℕ) (c : Sizes) (depth : ℕ) (lent : Lent) (run : Run) where
+module _ {F : Form} (kind : Kind) (time : Bool) (base room : ℕ) (c : Sizes) (depth : ℕ) (lent : Lent) (run : RunIn F) where
   -- after n passes the bench `here` stands for the state, and what is left of the run goes on from there
-  pub record At (here there : Bench) (book : List ℕ) (sums : List Float) (tallies : List ℕ) (n : ℕ) (s : Sizes) (made : ℕ) : Type 0 where
+  pub record At (here there : BenchIn F) (book : List ℕ) (sums : List (F .Cell)) (tallies : List ℕ) (n : ℕ) (s : Sizes) (made : ℕ) : Type 0 where
     pub within : n ≤ depth
     pub held : Held kind base s here book made
     pub lends : Lends kind base room c here there book sums tallies
@@ -60,16 +60,16 @@ module _ (kind : Kind) (time : Bool) (base room : ℕ) (c : Sizes) (depth : ℕ)
     pub on : runFrom kind time lent base (depth - n) n (stateOf kind s here book made) ≡ run
 
   -- the answer after n passes
-  pub record Ends (r : Refined) (here : Bench) (n : ℕ) : Type 0 where
+  pub record Ends (r : Refined) (here : BenchIn F) (n : ℕ) : Type 0 where
     pub passes : run .passes ≡ n
     pub answer : told r ≡ toldBy run
     pub stands : StandsFor kind here (run .left .mesh)
 
-  module _ {here there : Bench} {book : List ℕ} {sums : List Float} {tallies : List ℕ} {n : ℕ} {s : Sizes} {made : ℕ} (g : At here there book sums tallies n s made) where
-    abbrev now : State
+  module _ {here there : BenchIn F} {book : List ℕ} {sums : List (F .Cell)} {tallies : List ℕ} {n : ℕ} {s : Sizes} {made : ℕ} (g : At here there book sums tallies n s made) where
+    abbrev now : StateIn F
     now = stateOf kind s here book made
 
-    abbrev next : State
+    abbrev next : StateIn F
     next = passOver kind time base now
 
     -- what the run leaves where it ends here
@@ -86,12 +86,12 @@ module _ (kind : Kind) (time : Bool) (base room : ℕ) (c : Sizes) (depth : ℕ)
     unfolding toldBy
     ends v r e q =
         record {
-          passes = sym (ap (λ (x : Run). x .passes) q);
+          passes = sym (ap (λ (x : RunIn F). x .passes) q);
           answer =
               e
               ∙ ap (λ (z : Sizes). record { passes = n; sizes = z; verdict = v }) (sym (sizes-stated kind s here (held-sum (g .held))))
               ∙ ap toldBy q;
-          stands = subst (λ (x : Run). StandsFor kind here (x .left .mesh)) q standing;
+          stands = subst (λ (x : RunIn F). StandsFor kind here (x .left .mesh)) q standing;
         }
 
     pub ends-done : depth ≤ n → (r : Refined) → told r ≡ record { passes = n; sizes = s; verdict = accepted } → Ends r here n
@@ -116,7 +116,7 @@ module _ (kind : Kind) (time : Bool) (base room : ℕ) (c : Sizes) (depth : ℕ)
     ends-full k f r e = ends (refused 10) r e (step k false f)
 
     pub goes-on :
-        {there′ : Bench} {book′ : List ℕ} {sums′ : List Float} {tallies′ : List ℕ} {t : Sizes} {e : ℕ} → n < depth
+        {there′ : BenchIn F} {book′ : List ℕ} {sums′ : List (F .Cell)} {tallies′ : List ℕ} {t : Sizes} {e : ℕ} → n < depth
         → Onward kind base (lentOf kind here book) next there′ book′ t e → cells kind there′ ≡ cells kind there → length book′ ≡ length book
         → length sums′ ≡ length sums → length tallies′ ≡ length tallies → At there′ here book′ sums′ tallies′ (n + 1) t e
     goes-on {there′} {book′} {sums′} {tallies′} {t} {e} k o p q r u =
@@ -126,7 +126,7 @@ module _ (kind : Kind) (time : Bool) (base room : ℕ) (c : Sizes) (depth : ℕ)
           held = o .held;
           lends = l;
           lent-is =
-              ap₂ (λ (z : Sizes) (m : ℕ). record { cells = z; book = m / 4 }) (p ∙ sym (g .lends .twin)) q ∙ g .lent-is;
+              ap₂ (λ (z : Sizes) (m : ℕ). record { cells = z; book = m / Book.WORDS }) (p ∙ sym (g .lends .twin)) q ∙ g .lent-is;
           on =
               ap (λ (m : ℕ). runFrom kind time lent base (depth - m) m (stateOf kind t there′ book′ e)) (add-one n)
               ∙ ap (runFrom kind time lent base (depth - suc n) (suc n)) (o .state)

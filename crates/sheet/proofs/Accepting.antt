@@ -18,8 +18,8 @@ use Rattle.geom.specs.File.{benchOver}
 use Rattle.geom.proofs.Lists.{All, all-map, all-append, all-of-map}
 use Rattle.geom.proofs.Back.{elementRowOf, curveRowOf, stepRows, ownSteps}
 use Rattle.geom.proofs.Standing.{over-begins, Laid, elements-read, curves-read, steps-read, every-true, stands}
+use Rattle.geom.proofs.Within.{within-holds}
 use Rattle.judge.proofs.Verdicts.{numbers-are, due-none}
-use Rattle.pass.proofs.Fitting.{within-holds}
 use Rattle.sheet.proofs.Fine.{Number, Fine}
 
 -- a mesh that was written over a bench stands there

@@ -14,8 +14,8 @@ use Rattle.geom.specs.Refinement.{within}
 use Rattle.geom.specs.File as File
 use Rattle.geom.specs.File.{read, andThen, figure}
 use Rattle.geom.specs.Sheet.{SHEET-CELLS}
-use Rattle.pass.proofs.Fitting.{within-holds}
 use Rattle.geom.specs.Mesh.{Mesh}
+use Rattle.geom.proofs.Within.{within-holds}
 use Rattle.sheet.proofs.Readers.{never, judged-on, then-same}
 use Rattle.sheet.specs.Desk.{Lengths, kindSaid}
 

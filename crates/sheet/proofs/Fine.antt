@@ -15,12 +15,12 @@ use Rattle.geom.specs.Book.{Kind}
 use Rattle.geom.specs.Elements.{Element, Curve}
 use Rattle.geom.specs.Mesh.{Mesh, curveVertices, sizesOf}
 use Rattle.geom.specs.Refinement.{LIMIT, LIMITS, within}
-use Rattle.geom.specs.Refusals.{goodFlags, goodCoordinate, goodPosition, goodNumber}
+use Rattle.geom.specs.Refusals.{goodFlags, goodCoordinate, goodPosition, goodPositionIn, goodNumber}
 use Rattle.geom.specs.Memory.{areaCorners, volumeCorners}
 use Rattle.geom.specs.File as File
 use Rattle.geom.specs.File.{Figure}
 use Rattle.geom.proofs.Lists.{All, and-true-left, and-true-right, all-map}
-use Rattle.judge.proofs.Verdicts.{Within}
+use Rattle.geom.proofs.Within.{Within}
 use Rattle.geom.proofs.Back.{Stepped}
 use Rattle.geom.proofs.Standing.{Formed}
 use Rattle.sheet.proofs.Readers.{Gives, gives-then, gives-done, gives-judged, gives-several, gives-any}
@@ -40,7 +40,7 @@ all-four : (a b c d : Bool) → a ≡ true → b ≡ true → c ≡ true → d �
 all-four a b c d p q r s = rw (p, q, r, s) refl
 
 vertex-good : Gives Placed File.vertex
-unfolding File.vertex goodPosition
+unfolding File.vertex goodPositionIn
 vertex-good =
     gives-then File.coordinate _ coordinate-good
     (λ x gx.

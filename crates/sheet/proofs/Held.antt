@@ -20,7 +20,7 @@ use Rattle.geom.proofs.Steps.{passes-good}
 use Rattle.geom.proofs.Left.{run-lists}
 use Rattle.geom.proofs.Back.{Stepped}
 use Rattle.geom.proofs.Forming.{face-corners, volume-corners}
-use Rattle.judge.proofs.Verdicts.{Within}
+use Rattle.geom.proofs.Within.{Within}
 use Rattle.pass.proofs.Fitting.{fits-facts}
 use Rattle.sheet.proofs.Lengths.{Short}
 

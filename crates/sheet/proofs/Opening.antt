@@ -11,6 +11,7 @@ use Rattle.geom.specs.declared.answer.Reading.{Reading}
 use Rattle.geom.specs.declared.kind.Kind as Kinds
 use Rattle.geom.specs.Answers.{firstDue, Opening, meshOfKind, noMesh, judgementOf, openingOf}
 use Rattle.geom.specs.Kinds.{kindOf}
+use Rattle.geom.proofs.Within.{within-holds}
 use Rattle.sheet.specs.declared.desk.Found.{Found}
 use Rattle.sheet.specs.declared.desk.Found.the-variants.{Mesh, Refused}
 use Rattle.geom.specs.Book.{Kind, cubes, simplices}
@@ -23,7 +24,6 @@ use Rattle.geom.specs.Memory.{Bench, cells, rowsOf, meshOf, benchOf}
 use Rattle.geom.specs.Refinement.{within, run}
 use Rattle.geom.specs.Refusals.{handedIn, benchesEqual}
 use Rattle.geom.specs.Sheet.{SHEET-CELLS, SHEET-LENT, refinedBy, printed}
-use Rattle.pass.proofs.Fitting.{within-holds}
 use Rattle.run.proofs.Going.{Same, same-cells}
 use Rattle.sheet.specs.Desk.{kindSaid, judgedBy, Lengths, Lent, Ready, Handed}
 use Rattle.figure.specs.Entry.{outcome}

@@ -11,7 +11,7 @@ use lib.Seq.{getD-take, length-take-le}
 use Rattle.numbers.specs.Binary32 as Binary32
 use Rattle.geom.specs.declared.answer.Sizes.{Sizes}
 use Rattle.geom.specs.Book.{Kind}
-use Rattle.geom.specs.Memory.{Rows, areaCorners, volumeCorners, firstOf, vertexRow, elementRow, curveRow, stepRow, rowsOf, meshOf}
+use Rattle.geom.specs.Memory.{Rows, areaCorners, volumeCorners, firstOf, vertexRow, fourRow, vertexRowIn, elementRow, curveRow, stepRow, rowsOf, meshOf}
 use Rattle.geom.specs.Listing as Listing
 use Rattle.geom.specs.Refusals.{curveLengths}
 use Rattle.geom.proofs.Rows.{firstOf-same}
@@ -25,7 +25,7 @@ use Rattle.listing.specs.Printed.{listed, Stated}
 vertices-part :
     (positions : List Float) (marks : List ℕ) (n : ℕ)
     → firstOf (vertexRow (take (4 * n) positions) marks) n ≡ firstOf (vertexRow positions marks) n
-unfolding vertexRow
+unfolding vertexRowIn fourRow
 vertices-part positions marks n =
     firstOf-same (vertexRow (take (4 * n) positions) marks) (vertexRow positions marks) n
     (λ i l.

@@ -2,7 +2,7 @@
 use mathlib.Core.Path.{_≡_, refl, sym, _∙_, ap, subst}
 use mathlib.Core.Bool.{Bool, true, false, cond}
 use mathlib.Core.List.{List, [], _∷_}
-use Prim.Native.Nat.{ℕ, _/_, _%_, _≤_, _<_, min}
+use Prim.Native.Nat.{ℕ, _*_, _/_, _%_, _≤_, _<_, min}
 use native.Mathlib.Omega.{arith}
 use lib.Dec.{eqb}
 use lib.ListN.{length}
@@ -16,7 +16,7 @@ use Rattle.geom.specs.Listing.{listing, refusal}
 use Rattle.geom.specs.Mesh.{Mesh, sizesOf}
 use Rattle.geom.specs.Memory.{Bench, Rows, areaCorners, volumeCorners, cells, rowsOf, meshOf}
 use Rattle.geom.specs.Refinement.{Lent, Run, run, toldBy, within}
-use Rattle.geom.specs.Refusals.{Desk, Subdivided, ran, subdivided, subdividedBy, toldAfter, Leaves, StandsFor, lentBy, benchesHold, countsHold, numbersHold, goodNumber, every, handedIn, refinementVerdict, side}
+use Rattle.geom.specs.Refusals.{Desk, Subdivided, ran, subdivided, subdividedBy, toldAfter, Leaves, StandsFor, BOOK-WORDS, lentBy, benchesHold, countsHold, numbersHold, goodNumber, every, handedIn, refinementVerdict, side}
 use Rattle.geom.specs.Sheet.{SHEET-CELLS, SHEET-LENT, printed, printedBy}
 use Rattle.geom.proofs.Lists.{All, and-true-left, and-true-right, below-number}
 use Rattle.geom.proofs.Accepted as Accepted
@@ -24,12 +24,11 @@ use Rattle.geom.proofs.Back.{Stepped}
 use Rattle.geom.proofs.Forming.{rows-stepped}
 use Rattle.geom.proofs.Well.{Below}
 use Rattle.judge.specs.Judged.{bench}
-use Rattle.judge.proofs.Verdicts.{within-facts, counts-positions, counts-marked, counts-numbered}
-use Rattle.pass.proofs.Fitting.{within-holds}
+use Rattle.geom.proofs.Within.{within-facts, within-holds}
+use Rattle.judge.proofs.Verdicts.{counts-positions, counts-marked, counts-numbered}
 use Rattle.subdivision.specs.Entry.{Refines}
 use Rattle.listing.specs.Printed.{listed, Stated}
 use Rattle.listing.proofs.Whole.{any-marks}
-use Rattle.sheet.specs.Desk as Lending
 use Rattle.sheet.specs.Desk.{Handed}
 use Rattle.sheet.proofs.Cells.{cells-lent}
 use Rattle.sheet.proofs.Opening.{same-lengths, equal-lent}
@@ -77,7 +76,7 @@ few simplices = omega arith
 
 module _
     (kind : Kind) (s : Sizes) (time depth : ℕ) (d after : Desk) (r : Refined) (out : List ℕ)
-    (h : Handed kind s time (d .first) (d .second) out) (book : length (d .book) ≡ 4096) (sums : length (d .sums) ≡ 4096)
+    (h : Handed kind s time (d .first) (d .second) out) (book : length (d .book) ≡ 1024 * BOOK-WORDS) (sums : length (d .sums) ≡ 4096)
     (tallies : length (d .tallies) ≡ 2048) (q : Refines kind s d after depth time (told r)) where
   -- the mesh handed in, and the definition's run
   abbrev mesh : Mesh
@@ -102,7 +101,7 @@ module _
   lent-is : lentBy kind d ≡ SHEET-LENT
   unfolding lentBy
   lent-is =
-      let b : length (d .book) / 4 ≡ 1024 = omega (arith, book) in
+      let b : length (d .book) / BOOK-WORDS ≡ 1024 = omega (arith, book) in
       λ i. record { cells = first-lent i; book = b i }
 
   ran-is : subdivided kind s d depth time ≡ ran run-of

@@ -10,7 +10,7 @@ ghost use Rattle.geom.specs.Kinds.{kindOf};
 ghost use Rattle.geom.specs.File.{figure};
 ghost use Rattle.geom.specs.Memory.{areaCorners, volumeCorners, rowsOf, meshOf};
 ghost use Rattle.geom.specs.Refinement.{within, run};
-ghost use Rattle.geom.specs.Refusals.{side};
+ghost use Rattle.geom.specs.Refusals.{BOOK-WORDS, side};
 ghost use Rattle.geom.specs.Sheet.{SHEET-CELLS, SHEET-LENT, refinedBy, printed};
 ghost use Rattle.geom.specs.Answers.{judgementOf};
 ghost use Rattle.judge.specs.Judged.{bench};
@@ -21,6 +21,7 @@ use geom::answer::Ended;
 use geom::answer::Opened;
 use geom::answer::Sizes;
 use geom::kind::Kind;
+use index::CELL;
 use judge::counts::area_corners;
 use judge::counts::volume_corners;
 use left::left;
@@ -28,6 +29,9 @@ use left::left_positions;
 use listing::listing;
 use listing::refusal;
 use subdivision::subdivide;
+
+// The words that are lent to the book.
+const BOOK: usize = 1024 * CELL;
 
 // Fresh cells. The length is promised, since lending them as a slice asks for it.
 fn cells_1024() -> [u32; 1024]
@@ -48,12 +52,6 @@ fn cells_3072() -> [u32; 3072]
     [0; 3072]
 }
 
-fn cells_4096() -> [u32; 4096]
-    ensures { λ r. ⌜ 4096 ≡ length r ⌝ }
-{
-    [0; 4096]
-}
-
 fn cells_5120() -> [u32; 5120]
     ensures { λ r. ⌜ 5120 ≡ length r ⌝ }
 {
@@ -70,6 +68,13 @@ fn numbers_4096() -> [f32; 4096]
     ensures { λ r. ⌜ 4096 ≡ length r ⌝ }
 {
     [0.0; 4096]
+}
+
+// The cells of the book.
+fn book_cells() -> [u32; BOOK]
+    ensures { λ r. ⌜ 1024 * BOOK-WORDS ≡ length r ⌝ }
+{
+    [0; BOOK]
 }
 
 // The kind that the file says: how many words are lent to areas and volumes depends on it. Where it says none, the file is refused
@@ -175,7 +180,7 @@ fn refined(
     requires { ⌜ Handed (kindOf kind) sizes time (bench (now positions) (now marks) (now points) (now lines) (now areas) (now volumes) (now curves) (now steps)) (bench (now «other_positions») (now «other_marks») (now «other_points») (now «other_lines») (now «other_areas») (now «other_volumes») (now «other_curves») (now «other_steps»)) (now out) ⌝ }
     ensures { λ r. ⌜ Printed (printed (run (kindOf kind) (eqb time 1) SHEET-LENT depth (meshOf (rowsOf (kindOf kind) sizes (bench (now (positions .entry)) (now (marks .entry)) (now (points .entry)) (now (lines .entry)) (now (areas .entry)) (now (volumes .entry)) (now (curves .entry)) (now (steps .entry))))))) (now (out .entry)) (now (out .exit)) r ⌝ }
 {
-    let mut book = cells_4096();
+    let mut book = book_cells();
     let mut sums = numbers_4096();
     let mut tallies = cells_2048();
     let answer = subdivide(

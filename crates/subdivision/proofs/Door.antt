@@ -14,16 +14,19 @@ use Rattle.geom.specs.declared.answer.Ended.the-variants.{Refused}
 use Rattle.geom.specs.declared.answer.Refined.{Refined}
 use Rattle.geom.specs.Answers.{Verdict, accepted, refused, verdictOf, told}
 use Rattle.geom.specs.Book.{Kind}
+use Rattle.geom.specs.Form.{Form}
 use Rattle.geom.specs.Memory.{cells, firstOf, rowsOf, meshOf}
-use Rattle.geom.specs.Refusals.{goodParity, countsHold, marksHold, handedIn, Desk, benchesEqual, benchesHold, lentBy, refinementVerdict, Subdivided, unchanged, ran, subdividedBy, subdivided, toldAfter, Leaves}
+use Rattle.geom.specs.Refusals.{goodParity, countsHold, marksHold, handedIn, DeskIn, benchesEqual, benchesHold, lentBy, refinementVerdict, SubdividedIn, unchanged, ran, subdividedBy, subdivided, toldAfter, Leaves}
 use Rattle.geom.specs.Refinement.{LIMIT, LIMITS, within, run}
 use Rattle.geom.proofs.Lists.{same-number, and-true-left, and-true-right}
 use Rattle.geom.proofs.Accepted.{none-due, vertex-count, accepted-well}
 use Rattle.geom.proofs.Well.{Well}
-use Rattle.book.specs.Cells.{pairsOf}
-use Rattle.book.proofs.Links.{linked-none}
+use Rattle.geom.proofs.Steady.{Steady}
+use Rattle.book.specs.Cells.{WORDS, pairsOf}
+use Rattle.index.specs.Cells.{pairs}
+use Rattle.index.proofs.Ways.{linked-none}
 use Rattle.judge.specs.Counts.{lengthsOf, cellsOf}
-use Rattle.judge.proofs.Verdicts.{Within, within-facts}
+use Rattle.geom.proofs.Within.{Within, within-facts}
 use Rattle.pass.specs.Benches.{stateOf, lentOf, capped, Held, Lends}
 use Rattle.run.specs.Runs.{runOf, Ran}
 use Rattle.subdivision.specs.Entry.{Refines}
@@ -45,7 +48,7 @@ twins s t f g =
 
 -- ---- accepted
 
-module _ (kind : Kind) (s : Sizes) (d : Desk) (time : ℕ) (e : refinementVerdict kind s d time ≡ accepted) where
+module _ {F : Form} (kind : Kind) (s : Sizes) (d : DeskIn F) (time : ℕ) (e : refinementVerdict kind s d time ≡ accepted) where
   nine : (countsHold kind s (d .first) && benchesHold kind d) ≡ true
   unfolding refinementVerdict handedIn
   nine = not-false _ (none-due (handedIn (benchesHold kind d) (goodParity time) kind s (d .first)) e .0)
@@ -67,7 +70,7 @@ module _ (kind : Kind) (s : Sizes) (d : Desk) (time : ℕ) (e : refinementVerdic
         marks = and-true-left (marksHold (rowsOf kind s (d .first))) (goodParity time) five;
         limits = ten;
         count = sym (add-zero (s .vertices));
-        linked = linked-none (d .book);
+        linked = linked-none pairs (d .book);
         good =
             record {
               rising = tt;
@@ -78,7 +81,7 @@ module _ (kind : Kind) (s : Sizes) (d : Desk) (time : ℕ) (e : refinementVerdic
   -- the bounds, from the lent cells that were worked out
   pub lends :
       {room : ℕ} {c lent : Sizes} → lent ≡ cellsOf kind (lengthsOf (d .first)) → c ≡ capped lent
-      → room ≡ min (length (d .book) / 4) (min (lent .vertices) LIMIT - s .vertices)
+      → room ≡ min (length (d .book) / WORDS) (min (lent .vertices) LIMIT - s .vertices)
       → Lends kind (s .vertices) room c (d .first) (d .second) (d .book) (d .sums) (d .tallies)
   unfolding benchesEqual benchesHold cells cellsOf
   lends l k r =
@@ -92,7 +95,7 @@ module _ (kind : Kind) (s : Sizes) (d : Desk) (time : ℕ) (e : refinementVerdic
         twin = twins a b (within-facts a b (and-true-left (within a b) (within b a) w)) (within-facts b a (and-true-right (within a b) (within b a) w));
         sum = omega (arith, n);
         tally = omega (arith, n);
-        rooms = r ∙ ap (λ (z : Sizes). min (length (d .book) / 4) (min (z .vertices) LIMIT - s .vertices)) l;
+        rooms = r ∙ ap (λ (z : Sizes). min (length (d .book) / WORDS) (min (z .vertices) LIMIT - s .vertices)) l;
         caps = k ∙ ap capped l;
       }
 
@@ -104,25 +107,25 @@ module _ (kind : Kind) (s : Sizes) (d : Desk) (time : ℕ) (e : refinementVerdic
       ∙ ap (λ (n : ℕ). ran (runOf kind (eqb time 1) (lentOf kind (d .first) (d .book)) n depth (stateOf kind s (d .first) (d .book) 0))) (vertex-count kind s (d .first))
 
   pub runs :
-      (depth : ℕ) (after : Desk) (r : Refined)
+      Steady F → (depth : ℕ) (after : DeskIn F) (r : Refined)
       → Ran kind (runOf kind (eqb time 1) (lentOf kind (d .first) (d .book)) (s .vertices) depth (stateOf kind s (d .first) (d .book) 0)) r (after .first) (after .second)
       → Refines kind s d after depth time (told r)
   unfolding toldAfter Leaves
-  runs depth after r q =
-      refines kind s d after depth time (q .answer ∙ ap (toldAfter s) (sym (run-is depth)))
-      (subst (λ (x : Subdivided). Leaves kind x d after) (sym (run-is depth)) (q .stands))
+  runs steady depth after r q =
+      refines steady kind s d after depth time (q .answer ∙ ap (toldAfter s) (sym (run-is depth)))
+      (subst (λ (x : SubdividedIn F). Leaves kind x d after) (sym (run-is depth)) (q .stands))
 
 -- ---- refused
 
 pub refuses :
-    (kind : Kind) (s : Sizes) (d : Desk) (time depth : ℕ) (r : Refined) {ended : Ended} {k : ℕ} → verdictOf ended ≡ refinementVerdict kind s d time
+    {F : Form} → Steady F → (kind : Kind) (s : Sizes) (d : DeskIn F) (time depth : ℕ) (r : Refined) {ended : Ended} {k : ℕ} → verdictOf ended ≡ refinementVerdict kind s d time
     → ended ≡ Refused k → told r ≡ record { passes = 0; sizes = s; verdict = verdictOf ended } → Refines kind s d d depth time (told r)
 unfolding verdictOf subdivided toldAfter Leaves
-refuses kind s d time depth r {ended} {k} j e t =
+refuses {F} steady kind s d time depth r {ended} {k} j e t =
     let v : refused k ≡ refinementVerdict kind s d time = sym (ap verdictOf e) ∙ j in
     let q : unchanged k ≡ subdivided kind s d depth time =
     ap (λ (v : Verdict). subdividedBy v (run kind (eqb time 1) (lentBy kind d) depth (meshOf (rowsOf kind s (d .first))))) v
     in
-    refines kind s d d depth time
+    refines steady kind s d d depth time
     (t ∙ ap (λ (v : Verdict). record { passes = 0; sizes = s; verdict = v }) (ap verdictOf e) ∙ ap (toldAfter s) q)
-    (subst (λ (x : Subdivided). Leaves kind x d d) q refl)
+    (subst (λ (x : SubdividedIn F). Leaves kind x d d) q refl)

@@ -12,6 +12,7 @@ use geom::answer::Ended;
 use geom::answer::Refined;
 use geom::answer::Sizes;
 use geom::kind::Kind;
+use index::CELL;
 use judge::counts::Lengths;
 use judge::counts::cells;
 use judge::counts::smaller;
@@ -126,7 +127,7 @@ pub fn subdivide(
     };
     let lent = cells(kind, first);
     let c = caps(lent);
-    let room = room_for(book.len() / 4, lent.vertices, sizes.vertices);
+    let room = room_for(book.len() / CELL, lent.vertices, sizes.vertices);
     let time = smooth_time == 1;
     run(
         kind,

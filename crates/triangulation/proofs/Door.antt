@@ -20,7 +20,8 @@ use Rattle.geom.specs.Refusals.{countsHold, handedIn}
 use Rattle.geom.specs.Triangulation.{triangulated, Cuts, cutsHold, triangulationVerdict, triangulatedBy, triangulation}
 use Rattle.geom.proofs.Lists.{and-true-left, and-true-right}
 use Rattle.geom.proofs.Accepted.{none-due, refused-before, accepted-before}
-use Rattle.judge.proofs.Verdicts.{Within, within-facts, counts-marked}
+use Rattle.geom.proofs.Within.{Within, within-facts}
+use Rattle.judge.proofs.Verdicts.{counts-marked}
 use Rattle.triangulation.specs.Entry.{trianglesOf, tetrahedraOf, lengthsHold, cuts, answered}
 use Rattle.triangulation.proofs.Sizing.{sizes-cut}
 

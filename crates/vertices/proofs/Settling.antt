@@ -6,20 +6,16 @@ use mathlib.Core.List.{List, [], _∷_, _++_, flatMap}
 use Prim.Native.Nat.{ℕ, zero, suc, _+_, _*_, _/_, _%_, _≤_, _<_}
 use native.Mathlib.Omega.{arith}
 use lib.Dec.{eqb}
-use lib.Ieee.{Float}
 use lib.ListN.{length, getD}
 use lib.Seq.{sets, length-sets}
 use borrow.Author.Tests.{eq-eqb, ne-eqb}
-use Rattle.numbers.specs.Binary32 as Binary32
-use Rattle.numbers.specs.Points4 as Points4
-use Rattle.numbers.specs.declared.vec4.Vec4.{Vec4}
-use Rattle.geom.specs.declared.vertex.Vertex.{Vertex}
 use Rattle.geom.specs.Book.{Kind}
 use Rattle.geom.specs.Elements.{Lists}
-use Rattle.geom.specs.Memory.{firstOf, vertexRow, over}
+use Rattle.geom.specs.Form.{Form}
+use Rattle.geom.specs.Memory.{firstOf, fourRow, vertexRowIn, fourWords, positionWordsIn, over}
 use Rattle.geom.specs.Vertices.{flagged}
-use Rattle.geom.specs.Smoothing.{Gathered, gathered, replaced, moved, settled, settledFrom, smoothed}
-use Rattle.vertices.specs.Cells.{positionWords, positionsWords, pointRow, gatheredRow}
+use Rattle.geom.specs.Smoothing.{GatheredIn, gatheredIn, replaced, movedIn, settledIn, settledFromIn, smoothedIn}
+use Rattle.vertices.specs.Cells.{gatheredRowIn}
 use Rattle.geom.proofs.Lists.{and-true, and-false}
 use Rattle.geom.proofs.Rows.{length-firstOf, firstOf-same}
 use Rattle.vertices.proofs.Written.{getD-sets-past, laid-on, laid-over, length-flat}
@@ -34,133 +30,131 @@ or-true false = refl
 replaced-space : (time b : Bool) → (b && (time || true)) ≡ b
 replaced-space time b = rw (or-true time) (and-true b)
 
-module _ (v : Vertex) (p : Vec4) (x y z : Float)
-    (ex : x ≡ cond (not (eqb (v .flags / 1 % 2) 1)) (p .x) (v .position .x))
-    (ey : y ≡ cond (not (eqb (v .flags / 2 % 2) 1)) (p .y) (v .position .y))
-    (ez : z ≡ cond (not (eqb (v .flags / 4 % 2) 1)) (p .z) (v .position .z)) where
-  space : (time : Bool) (w : Float) → w ≡ cond (replaced time (v .flags) 3) (p .w) (v .position .w)
-      → _≡_ {A = Vec4} (record { x = x; y = y; z = z; w = w }) (moved time v p)
-  unfolding moved replaced flagged
-  space time w ew =
-      let ax = ex ∙ ap (λ (b : Bool). cond b (p .x) (v .position .x)) (sym (replaced-space time (not (eqb (v .flags / 1 % 2) 1)))) in
-      let ay = ey ∙ ap (λ (b : Bool). cond b (p .y) (v .position .y)) (sym (replaced-space time (not (eqb (v .flags / 2 % 2) 1)))) in
-      let az = ez ∙ ap (λ (b : Bool). cond b (p .z) (v .position .z)) (sym (replaced-space time (not (eqb (v .flags / 4 % 2) 1)))) in
-      λ i. record { x = ax i; y = ay i; z = az i; w = ew i }
+module _ (F : Form) where
+  module _ (v : F .Vertex) (p : F .Point) (x y z : F .Coordinate)
+      (ex : x ≡ cond (not (eqb (F .flags v / 1 % 2) 1)) (F .points .x p) (F .points .x (F .position v)))
+      (ey : y ≡ cond (not (eqb (F .flags v / 2 % 2) 1)) (F .points .y p) (F .points .y (F .position v)))
+      (ez : z ≡ cond (not (eqb (F .flags v / 4 % 2) 1)) (F .points .z p) (F .points .z (F .position v))) where
+    space : (time : Bool) (w : F .Coordinate) → w ≡ cond (replaced time (F .flags v) 3) (F .points .w p) (F .points .w (F .position v))
+        → F .points .four x y z w ≡ movedIn F time v p
+    unfolding movedIn replaced flagged
+    space time w ew =
+        let ax = ex ∙ ap (λ (b : Bool). cond b (F .points .x p) (F .points .x (F .position v))) (sym (replaced-space time (not (eqb (F .flags v / 1 % 2) 1)))) in
+        let ay = ey ∙ ap (λ (b : Bool). cond b (F .points .y p) (F .points .y (F .position v))) (sym (replaced-space time (not (eqb (F .flags v / 2 % 2) 1)))) in
+        let az = ez ∙ ap (λ (b : Bool). cond b (F .points .z p) (F .points .z (F .position v))) (sym (replaced-space time (not (eqb (F .flags v / 4 % 2) 1)))) in
+        λ i. F .points .four (ax i) (ay i) (az i) (ew i)
 
-  pub moved-timed : (time : Bool) (w : Float) → time ≡ true → w ≡ cond (not (eqb (v .flags / 8 % 2) 1)) (p .w) (v .position .w)
-      → _≡_ {A = Vec4} (record { x = x; y = y; z = z; w = w }) (moved time v p)
-  unfolding replaced flagged
-  moved-timed time w t ew =
-      space time w
-      (ew ∙ ap (λ (b : Bool). cond b (p .w) (v .position .w))
-      (sym (ap (λ (s : Bool). not (eqb (v .flags / 8 % 2) 1) && (s || false)) t ∙ and-true (not (eqb (v .flags / 8 % 2) 1)))))
+    pub moved-timed : (time : Bool) (w : F .Coordinate) → time ≡ true → w ≡ cond (not (eqb (F .flags v / 8 % 2) 1)) (F .points .w p) (F .points .w (F .position v))
+        → F .points .four x y z w ≡ movedIn F time v p
+    unfolding replaced flagged
+    moved-timed time w t ew =
+        space time w
+        (ew ∙ ap (λ (b : Bool). cond b (F .points .w p) (F .points .w (F .position v)))
+        (sym (ap (λ (s : Bool). not (eqb (F .flags v / 8 % 2) 1) && (s || false)) t ∙ and-true (not (eqb (F .flags v / 8 % 2) 1)))))
 
-  pub moved-still : (time : Bool) → time ≡ false → _≡_ {A = Vec4} (record { x = x; y = y; z = z; w = v .position .w }) (moved time v p)
-  unfolding replaced flagged
-  moved-still time t =
-      space time (v .position .w)
-      (ap (λ (b : Bool). cond b (p .w) (v .position .w))
-      (sym (ap (λ (s : Bool). not (eqb (v .flags / 8 % 2) 1) && (s || false)) t ∙ and-false (not (eqb (v .flags / 8 % 2) 1)))))
+    pub moved-still : (time : Bool) → time ≡ false → F .points .four x y z (F .points .w (F .position v)) ≡ movedIn F time v p
+    unfolding replaced flagged
+    moved-still time t =
+        space time (F .points .w (F .position v))
+        (ap (λ (b : Bool). cond b (F .points .w p) (F .points .w (F .position v)))
+        (sym (ap (λ (s : Bool). not (eqb (F .flags v / 8 % 2) 1) && (s || false)) t ∙ and-false (not (eqb (F .flags v / 8 % 2) 1)))))
 
-pub settled-none : (time : Bool) (v : Vertex) (sum : Vec4) (n t : ℕ) → n ≡ 0 → v .position ≡ settled time v (record { sum = sum; count = n; touch = t }) .position
-unfolding settled
-settled-none time v sum n t e = rw (eq-eqb n 0 e) refl
+  pub settled-none : (time : Bool) (v : F .Vertex) (sum : F .Sum) (n t : ℕ) → n ≡ 0
+      → F .position v ≡ F .position (settledIn F time v (record { sum = sum; count = n; touch = t }))
+  unfolding settledIn
+  settled-none time v sum n t e = rw (eq-eqb n 0 e) refl
 
-pub settled-moved : (time : Bool) (v : Vertex) (sum : Vec4) (n t : ℕ) (p r : Vec4) → (n ≡ 0 → ⊥) → p ≡ Points4.quotient sum (Binary32.count n) → r ≡ moved time v p
-    → r ≡ settled time v (record { sum = sum; count = n; touch = t }) .position
-unfolding settled
-settled-moved time v sum n t p r ne ep er = rw (ne-eqb n 0 ne) (er ∙ ap (moved time v) ep)
+  pub settled-moved : (time : Bool) (v : F .Vertex) (sum : F .Sum) (n t : ℕ) (p r : F .Point) → (n ≡ 0 → ⊥) → p ≡ F .mean sum n → r ≡ movedIn F time v p
+      → r ≡ F .position (settledIn F time v (record { sum = sum; count = n; touch = t }))
+  unfolding settledIn
+  settled-moved time v sum n t p r ne ep er = rw (ne-eqb n 0 ne) (er ∙ ap (movedIn F time v) ep ∙ sym (F .parts-of _ _ _ _ .0))
 
--- ---- all vertices, in place
+  -- ---- all vertices, in place
 
--- what becomes of vertex i, by what the cells hold
-abbrev pub settledRow : Bool → List Float → List ℕ → List Float → List ℕ → ℕ → Vertex
-settledRow time positions marks sums tallies i = settled time (vertexRow positions marks i) (gatheredRow sums tallies i)
+  -- what becomes of vertex i, by what the cells hold
+  abbrev pub settledRow : Bool → List (F .Coordinate) → List ℕ → List (F .Cell) → List ℕ → ℕ → F .Vertex
+  settledRow time positions marks sums tallies i = settledIn F time (vertexRowIn F positions marks i) (gatheredRowIn F sums tallies i)
 
-module _ (time : Bool) (held : List Float) (marks : List ℕ) (sums : List Float) (tallies : List ℕ) (count : ℕ) where
-  pub record Settling (positions : List Float) (i : ℕ) : Type 0 where
-    pub within : i ≤ count
-    pub points : positions ≡ sets held (4 * 0) (positionsWords (firstOf (settledRow time held marks sums tallies) i))
+  module _ (time : Bool) (held : List (F .Coordinate)) (marks : List ℕ) (sums : List (F .Cell)) (tallies : List ℕ) (count : ℕ) where
+    pub record Settling (positions : List (F .Coordinate)) (i : ℕ) : Type 0 where
+      pub within : i ≤ count
+      pub points : positions ≡ sets held (4 * 0) (flatMap (positionWordsIn F) (firstOf (settledRow time held marks sums tallies) i))
 
-  pub settling-start : Settling held 0
-  unfolding firstOf flatMap
-  settling-start = record { within = omega arith; points = refl }
+    pub settling-start : Settling held 0
+    unfolding firstOf flatMap
+    settling-start = record { within = omega arith; points = refl }
 
-  module _ (positions : List Float) (i : ℕ) (s : Settling positions i) where
-    pub settling-length : length positions ≡ length held
-    settling-length = ap length (s .points) ∙ length-sets held (4 * 0) (positionsWords (firstOf (settledRow time held marks sums tallies) i))
+    module _ (positions : List (F .Coordinate)) (i : ℕ) (s : Settling positions i) where
+      pub settling-length : length positions ≡ length held
+      settling-length = ap length (s .points) ∙ length-sets held (4 * 0) (flatMap (positionWordsIn F) (firstOf (settledRow time held marks sums tallies) i))
 
-    -- row i still holds what it held
-    word : (k : ℕ) → getD positions (4 * i + k) Binary32.zero ≡ getD held (4 * i + k) Binary32.zero
-    word k =
-        ap (λ (l : List Float). getD l (4 * i + k) Binary32.zero) (s .points)
-        ∙ getD-sets-past held (4 * 0) (positionsWords (firstOf (settledRow time held marks sums tallies) i)) (4 * i + k) Binary32.zero
-        (omega (arith, length-flat (λ (v : Vertex). positionWords (v .position)) 4 (λ v. refl) (firstOf (settledRow time held marks sums tallies) i), length-firstOf (settledRow time held marks sums tallies) i))
+      -- row i still holds what it held
+      word : (k : ℕ) → getD positions (4 * i + k) (F .points .zero) ≡ getD held (4 * i + k) (F .points .zero)
+      word k =
+          ap (λ (l : List (F .Coordinate)). getD l (4 * i + k) (F .points .zero)) (s .points)
+          ∙ getD-sets-past held (4 * 0) (flatMap (positionWordsIn F) (firstOf (settledRow time held marks sums tallies) i)) (4 * i + k) (F .points .zero)
+          (omega (arith, length-flat (positionWordsIn F) 4 (λ v. refl) (firstOf (settledRow time held marks sums tallies) i), length-firstOf (settledRow time held marks sums tallies) i))
 
-    row : vertexRow positions marks i ≡ vertexRow held marks i
-    unfolding vertexRow
-    row =
-        let e : 4 * i + 0 ≡ 4 * i = omega arith in
-        let x = rw e at (word 0) in
-        let y = word 1 in
-        let z = word 2 in
-        let w = word 3 in
-        λ j. record {
-          position = record { x = x j; y = y j; z = z j; w = w j };
-          flags = getD marks (3 * i) 0;
-          tag = getD marks (3 * i + 1) 0;
-          k = getD marks (3 * i + 2) 0;
-        }
+      row : vertexRowIn F positions marks i ≡ vertexRowIn F held marks i
+      unfolding vertexRowIn fourRow
+      row =
+          let e : 4 * i + 0 ≡ 4 * i = omega arith in
+          let x = rw e at (word 0) in
+          let y = word 1 in
+          let z = word 2 in
+          let w = word 3 in
+          λ j. F .vertex (F .points .four (x j) (y j) (z j) (w j)) (getD marks (3 * i) 0) (getD marks (3 * i + 1) 0) (getD marks (3 * i + 2) 0)
 
-    pub settling-on : i < count → (v : Vertex) (sum : Vec4) (n : ℕ) (p : Vec4) (positions′ : List Float) → v ≡ vertexRow positions marks i → sum ≡ pointRow sums i
-        → n ≡ getD tallies (2 * i) 0 → ((touch : ℕ) → p ≡ settled time v (record { sum = sum; count = n; touch = touch }) .position)
-        → positions′ ≡ sets positions (4 * i) (positionWords p) → Settling positions′ (i + 1)
-    unfolding gatheredRow
-    settling-on h v sum n p positions′ ev es en ep e =
-        let t = getD tallies (2 * i + 1) 0 in
-        let g : _≡_ {A = Gathered} (record { sum = sum; count = n; touch = t }) (gatheredRow sums tallies i) = λ j. record { sum = es j; count = en j; touch = t } in
-        let q : p ≡ settledRow time held marks sums tallies i .position
-        = ep t ∙ ap₂ (λ (u : Vertex) (k : Gathered). settled time u k .position) (ev ∙ row) g in
-        let z : 4 * i ≡ 4 * (0 + i) = omega arith in
-        record {
-          within = omega arith;
-          points =
-              e
-              ∙ ap₂ (λ (k : ℕ) (r : Vec4). sets positions k (positionWords r)) z q
-              ∙ laid-on (λ (v : Vertex). positionWords (v .position)) 4 (λ v. refl) held positions (settledRow time held marks sums tallies) 0 i (s .points);
-        }
+      pub settling-on : i < count → (v : F .Vertex) (sum : F .Sum) (n : ℕ) (p : F .Point) (positions′ : List (F .Coordinate)) → v ≡ vertexRowIn F positions marks i
+          → sum ≡ fourRow (F .sums) sums i → n ≡ getD tallies (2 * i) 0
+          → ((touch : ℕ) → p ≡ F .position (settledIn F time v (record { sum = sum; count = n; touch = touch })))
+          → positions′ ≡ sets positions (4 * i) (fourWords (F .points) p) → Settling positions′ (i + 1)
+      unfolding gatheredRowIn
+      settling-on h v sum n p positions′ ev es en ep e =
+          let t = getD tallies (2 * i + 1) 0 in
+          let g : _≡_ {A = GatheredIn F} (record { sum = sum; count = n; touch = t }) (gatheredRowIn F sums tallies i) = λ j. record { sum = es j; count = en j; touch = t } in
+          let q : p ≡ F .position (settledRow time held marks sums tallies i)
+          = ep t ∙ ap₂ (λ (u : F .Vertex) (k : GatheredIn F). F .position (settledIn F time u k)) (ev ∙ row) g in
+          let z : 4 * i ≡ 4 * (0 + i) = omega arith in
+          record {
+            within = omega arith;
+            points =
+                e
+                ∙ ap₂ (λ (k : ℕ) (r : F .Point). sets positions k (fourWords (F .points) r)) z q
+                ∙ laid-on (positionWordsIn F) 4 (λ v. refl) held positions (settledRow time held marks sums tallies) 0 i (s .points);
+          }
 
-    pub settling-done : count ≤ i → 4 * count ≤ length held → positions ≡ over held (positionsWords (firstOf (settledRow time held marks sums tallies) count))
-    settling-done h r =
-        let e : i ≡ count = omega arith in
-        (rw e at (s .points)) ∙ laid-over (λ (v : Vertex). positionWords (v .position)) 4 (λ v. refl) held (settledRow time held marks sums tallies) count r
+      pub settling-done : count ≤ i → 4 * count ≤ length held → positions ≡ over held (flatMap (positionWordsIn F) (firstOf (settledRow time held marks sums tallies) count))
+      settling-done h r =
+          let e : i ≡ count = omega arith in
+          (rw e at (s .points)) ∙ laid-over (positionWordsIn F) 4 (λ v. refl) held (settledRow time held marks sums tallies) count r
 
--- ---- the definition's list
+  -- ---- the definition's list
 
-settled-snoc : (kind : Kind) (time : Bool) (l : Lists) (vertices : List Vertex) (n : ℕ) (xs : List Vertex) (x : Vertex)
-    → settledFrom kind time l vertices n (xs ++ x ∷ []) ≡ settledFrom kind time l vertices n xs ++ settled time x (gathered kind l vertices (n + length xs)) ∷ []
-unfolding settledFrom
-settled-snoc kind time l vertices n [] x = let e : n + 0 ≡ n = omega arith in rw e refl
-settled-snoc kind time l vertices n (y ∷ xs) x =
-    let e : n + suc (length xs) ≡ suc n + length xs = omega arith in
-    rw e (ap (λ (r : List Vertex). settled time y (gathered kind l vertices n) ∷ r) (settled-snoc kind time l vertices (suc n) xs x))
+  settled-snoc : (kind : Kind) (time : Bool) (l : Lists) (vertices : List (F .Vertex)) (n : ℕ) (xs : List (F .Vertex)) (x : F .Vertex)
+      → settledFromIn F kind time l vertices n (xs ++ x ∷ []) ≡ settledFromIn F kind time l vertices n xs ++ settledIn F time x (gatheredIn F kind l vertices (n + length xs)) ∷ []
+  unfolding settledFromIn
+  settled-snoc kind time l vertices n [] x = let e : n + 0 ≡ n = omega arith in rw e refl
+  settled-snoc kind time l vertices n (y ∷ xs) x =
+      let e : n + suc (length xs) ≡ suc n + length xs = omega arith in
+      rw e (ap (λ (r : List (F .Vertex)). settledIn F time y (gatheredIn F kind l vertices n) ∷ r) (settled-snoc kind time l vertices (suc n) xs x))
 
-settled-rows : (kind : Kind) (time : Bool) (l : Lists) (vertices : List Vertex) (row : ℕ → Vertex) (n : ℕ)
-    → settledFrom kind time l vertices 0 (firstOf row n) ≡ firstOf (λ (i : ℕ). settled time (row i) (gathered kind l vertices i)) n
-unfolding firstOf settledFrom
-settled-rows kind time l vertices row zero = refl
-settled-rows kind time l vertices row (suc n) =
-    let e : 0 + length (firstOf row n) ≡ n = omega (arith, length-firstOf row n) in
-    settled-snoc kind time l vertices 0 (firstOf row n) (row n)
-    ∙ ap₂ (λ (xs : List Vertex) (k : ℕ). xs ++ settled time (row n) (gathered kind l vertices k) ∷ []) (settled-rows kind time l vertices row n) e
+  settled-rows : (kind : Kind) (time : Bool) (l : Lists) (vertices : List (F .Vertex)) (row : ℕ → F .Vertex) (n : ℕ)
+      → settledFromIn F kind time l vertices 0 (firstOf row n) ≡ firstOf (λ (i : ℕ). settledIn F time (row i) (gatheredIn F kind l vertices i)) n
+  unfolding firstOf settledFromIn
+  settled-rows kind time l vertices row zero = refl
+  settled-rows kind time l vertices row (suc n) =
+      let e : 0 + length (firstOf row n) ≡ n = omega (arith, length-firstOf row n) in
+      settled-snoc kind time l vertices 0 (firstOf row n) (row n)
+      ∙ ap₂ (λ (xs : List (F .Vertex)) (k : ℕ). xs ++ settledIn F time (row n) (gatheredIn F kind l vertices k) ∷ []) (settled-rows kind time l vertices row n) e
 
--- cells that hold what each vertex gathers settle to the definition's list
-pub settled-smoothed : (kind : Kind) (time : Bool) (l : Lists) (positions : List Float) (marks : List ℕ) (sums : List Float) (tallies : List ℕ) (count : ℕ)
-    → ((u : ℕ) → u < count → gatheredRow sums tallies u ≡ gathered kind l (firstOf (vertexRow positions marks) count) u)
-    → firstOf (settledRow time positions marks sums tallies) count ≡ smoothed kind time l (firstOf (vertexRow positions marks) count)
-unfolding smoothed
-settled-smoothed kind time l positions marks sums tallies count h =
-    let vertices = firstOf (vertexRow positions marks) count in
-    firstOf-same (settledRow time positions marks sums tallies) (λ (i : ℕ). settled time (vertexRow positions marks i) (gathered kind l vertices i)) count
-    (λ i k. ap (settled time (vertexRow positions marks i)) (h i k))
-    ∙ sym (settled-rows kind time l vertices (vertexRow positions marks) count)
+  -- cells that hold what each vertex gathers settle to the definition's list
+  pub settled-smoothed : (kind : Kind) (time : Bool) (l : Lists) (positions : List (F .Coordinate)) (marks : List ℕ) (sums : List (F .Cell)) (tallies : List ℕ) (count : ℕ)
+      → ((u : ℕ) → u < count → gatheredRowIn F sums tallies u ≡ gatheredIn F kind l (firstOf (vertexRowIn F positions marks) count) u)
+      → firstOf (settledRow time positions marks sums tallies) count ≡ smoothedIn F kind time l (firstOf (vertexRowIn F positions marks) count)
+  unfolding smoothedIn
+  settled-smoothed kind time l positions marks sums tallies count h =
+      let vertices = firstOf (vertexRowIn F positions marks) count in
+      firstOf-same (settledRow time positions marks sums tallies) (λ (i : ℕ). settledIn F time (vertexRowIn F positions marks i) (gatheredIn F kind l vertices i)) count
+      (λ i k. ap (settledIn F time (vertexRowIn F positions marks i)) (h i k))
+      ∙ sym (settled-rows kind time l vertices (vertexRowIn F positions marks) count)

@@ -143,8 +143,11 @@ impl Bench {
     }
 }
 
+/// The words of a cell of the book.
+pub const BOOK_WORDS: usize = 6;
+
 /// What a caller hands to a refinement in memory, but for depth and smooth_time. Lengths are in words: the book has
-/// 4 a cell, the sums 4, the tally 2 (count, touch).
+/// `BOOK_WORDS` a cell, the sums 4, the tally 2 (count, touch).
 #[derive(Clone, Debug)]
 pub struct Handed {
     pub kind: Kind,
@@ -167,7 +170,7 @@ impl Handed {
             kind: mesh.kind,
             first,
             second,
-            book: 4 * lent.book,
+            book: BOOK_WORDS * lent.book,
             sum: 4 * lent.lists.verts,
             tally: 2 * lent.lists.verts,
             counts: mesh.sizes(),
@@ -178,7 +181,7 @@ impl Handed {
     pub fn lent(&self) -> Lent {
         Lent {
             lists: self.first.cells(self.kind),
-            book: self.book / 4,
+            book: self.book / BOOK_WORDS,
         }
     }
 

@@ -6,6 +6,8 @@
 //! WORK SIZE SIDE CALLS` does one work, for callgrind and for the memory.
 #[path = "../../../oracle/src/block.rs"]
 mod block;
+#[path = "../../../oracle/src/crafted.rs"]
+mod crafted;
 #[path = "../../../oracle/src/geometry.rs"]
 mod geometry;
 mod work;

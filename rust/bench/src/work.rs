@@ -1,6 +1,7 @@
 //! What is measured: each work on both sides, from the same mesh.
 use crate::{
     block::{block, sheet},
+    crafted::{anywhere, deep_in_one_bucket, in_one_bucket, verts},
     geometry::geometry,
 };
 use aljumeste::geom::{ElementData, Geometry};
@@ -14,17 +15,22 @@ use std::{
     time::{Duration, Instant},
 };
 
-/// Each work with its sizes, from some hundred entries to about a million: cubes along each side of a block, or squares along each side of
-/// a sheet.
-pub const WORKS: [(&str, &[u32]); 7] = [
+/// Each work with its sizes, from some hundred entries to more than a million: cubes along each side of a block, squares along each side of
+/// a sheet, or lines.
+pub const WORKS: [(&str, &[u32]); 10] = [
     ("refine simplices", &[1, 4, 8, 12]),
     ("refine cubes", &[1, 4, 8, 19]),
+    ("lines anywhere", &LINES),
+    ("lines in one bucket", &LINES),
+    ("lines deep in one bucket", &LINES),
     ("triangulate", &[3, 8, 24, 54]),
     ("normals 3d", &[10, 64, 256, 640]),
     ("normals 4d", &[3, 8, 24, 54]),
     ("read cubes", &[4, 8, 24, 54]),
     ("read simplices", &[3, 8, 24, 50]),
 ];
+
+const LINES: [u32; 3] = [3_000, 30_000, 300_000];
 
 /// Whose work it is.
 #[derive(Copy, Clone, PartialEq, Eq)]
@@ -61,8 +67,13 @@ pub struct Work {
 impl Work {
     pub fn new(name: &str, size: u32) -> Work {
         match name {
-            "refine simplices" => refine_simplices(block(Kind::Simplices, size)),
-            "refine cubes" => refine_cubes(block(Kind::Cubes, size)),
+            "refine simplices" => refine_simplices(block(Kind::Simplices, size), 2),
+            "refine cubes" => refine_cubes(block(Kind::Cubes, size), 2),
+            "lines anywhere" => refine_simplices(anywhere(size), 1),
+            "lines in one bucket" => refine_simplices(in_one_bucket(size), 1),
+            "lines deep in one bucket" => {
+                refine_simplices(deep_in_one_bucket(size, verts(size)), 1)
+            }
             "triangulate" => triangulate(block(Kind::Cubes, size)),
             "normals 3d" => normals_3d(sheet(size)),
             "normals 4d" => normals_4d(block(Kind::Simplices, size)),
@@ -99,26 +110,26 @@ fn timed<I, O>(
     })
 }
 
-/// Two passes, time smoothed too.
+/// So many passes, time smoothed too.
 macro_rules! refinement {
     ($name:ident, $area:literal, $volume:literal, $data:ident) => {
-        fn $name(mesh: Mesh) -> Work {
+        fn $name(mesh: Mesh, passes: u8) -> Work {
             let geom = geometry::<$area, $volume, aljumeste::geom::$data>(&mesh);
             let mut left = geom.clone();
-            left.subdivide(true, 2).expect("blocks are accepted");
+            left.subdivide(true, passes).expect("the mesh is accepted");
             Work {
                 entries: entries(&left),
                 ours: timed(
                     move || geom.clone(),
-                    |mut geom| {
-                        geom.subdivide(true, 2).expect("blocks are accepted");
+                    move |mut geom| {
+                        geom.subdivide(true, passes).expect("the mesh is accepted");
                         geom
                     },
                 ),
                 original: timed(
                     move || mesh.geometry::<$area, $volume, $data>(),
-                    |mut geom| {
-                        geom.subdivide(true, 2);
+                    move |mut geom| {
+                        geom.subdivide(true, passes);
                         geom
                     },
                 ),

@@ -7,6 +7,7 @@ use Rattle.geom.specs.Refusals.{Desk}
 use Rattle.judge.specs.Judged.{bench}
 use Rattle.subdivision.specs.Entry.{desk}
 use Rattle.geom.proofs.Accepted.{accepted-by}
+use Rattle.geom.proofs.Stays.{steady-binary32}
 use Rattle.subdivision.proofs.Door.{held, lends, runs, refuses}
 use borrow.Author.Needs.{needs}
 use Rattle.subdivision.proofs.subdivide.Statement.{statement}
@@ -47,7 +48,7 @@ same-length-8 c = search needs
 
 returns : tie.Need-returns
 unfolding told
-returns c = let x = c .before .before .before .before .before .before .before .before .before .before .before .before .before .before .before .before .before .before .before .before .before .before .before .before .before .before .before .before .before .before .args in let d : Desk = (desk (bench (now (x .positions)) (now (x .marks)) (now (x .points)) (now (x .lines)) (now (x .areas)) (now (x .volumes)) (now (x .curves)) (now (x .steps))) (bench (now (x .other-positions)) (now (x .other-marks)) (now (x .other-points)) (now (x .other-lines)) (now (x .other-areas)) (now (x .other-volumes)) (now (x .other-curves)) (now (x .other-steps))) (now (x .book)) (now (x .sums)) (now (x .tallies))) in let j = c .before .before .judge .ensures d refl (record { bench = refl; sum = refl; tally = refl }) in refuses (kindOf (x .kind)) (x .sizes) d (x .smooth-time) (x .depth) _ j (c .enum-told2 .given .1) refl
+returns c = let x = c .before .before .before .before .before .before .before .before .before .before .before .before .before .before .before .before .before .before .before .before .before .before .before .before .before .before .before .before .before .before .args in let d : Desk = (desk (bench (now (x .positions)) (now (x .marks)) (now (x .points)) (now (x .lines)) (now (x .areas)) (now (x .volumes)) (now (x .curves)) (now (x .steps))) (bench (now (x .other-positions)) (now (x .other-marks)) (now (x .other-points)) (now (x .other-lines)) (now (x .other-areas)) (now (x .other-volumes)) (now (x .other-curves)) (now (x .other-steps))) (now (x .book)) (now (x .sums)) (now (x .tallies))) in let j = c .before .before .judge .ensures d refl (record { bench = refl; sum = refl; tally = refl }) in refuses steady-binary32 (kindOf (x .kind)) (x .sizes) d (x .smooth-time) (x .depth) _ j (c .enum-told2 .given .1) refl
 
 cells-requires : tie.Need-cells-requires
 cells-requires c κs = search needs
@@ -119,7 +120,7 @@ same-length-27 : tie.Need-same-length-27
 same-length-27 c = search needs
 
 returns-2 : tie.Need-returns-2
-returns-2 c = let x = c .before .before .before .before .before .before .before .before .before .before .before .before .before .before .before .before .before .before .before .before .before .before .before .before .before .before .before .before .before .before .before .before .before .before .before .before .before .before .before .before .before .before .before .before .before .before .before .before .before .before .before .before .before .before .before .before .before .before .before .before .before .before .before .before .before .before .before .before .before .before .before .before .before .before .before .before .before .before .before .before .before .before .before .before .before .before .before .before .before .before .before .args in let d : Desk = (desk (bench (now (x .positions)) (now (x .marks)) (now (x .points)) (now (x .lines)) (now (x .areas)) (now (x .volumes)) (now (x .curves)) (now (x .steps))) (bench (now (x .other-positions)) (now (x .other-marks)) (now (x .other-points)) (now (x .other-lines)) (now (x .other-areas)) (now (x .other-volumes)) (now (x .other-curves)) (now (x .other-steps))) (now (x .book)) (now (x .sums)) (now (x .tallies))) in let j = c .before .before .before .before .before .before .before .before .before .before .before .before .before .before .before .before .before .before .before .before .before .before .before .before .before .before .before .before .before .before .before .before .before .before .before .before .before .before .before .before .before .before .before .before .before .before .before .before .before .before .before .before .before .before .before .before .before .before .before .before .before .before .before .judge .ensures d refl (record { bench = refl; sum = refl; tally = refl }) in let e = accepted-by j (c .before .before .before .before .before .before .before .before .before .before .before .before .before .before .before .before .before .before .before .before .before .before .before .before .before .before .before .before .before .before .before .before .before .before .before .before .before .before .before .before .before .before .before .before .before .before .before .before .before .before .before .before .before .before .before .before .before .before .before .before .before .enum-told .given .1) in runs (kindOf (x .kind)) (x .sizes) d (x .smooth-time) e (x .depth) _ _ (c .before .before .before .before .before .before .before .before .before .before .before .before .before .before .before .before .before .before .before .before .before .before .before .before .before .before .before .before .before .before .before .before .before .before .before .before .before .before .run .ensures)
+returns-2 c = let x = c .before .before .before .before .before .before .before .before .before .before .before .before .before .before .before .before .before .before .before .before .before .before .before .before .before .before .before .before .before .before .before .before .before .before .before .before .before .before .before .before .before .before .before .before .before .before .before .before .before .before .before .before .before .before .before .before .before .before .before .before .before .before .before .before .before .before .before .before .before .before .before .before .before .before .before .before .before .before .before .before .before .before .before .before .before .before .before .before .before .before .before .args in let d : Desk = (desk (bench (now (x .positions)) (now (x .marks)) (now (x .points)) (now (x .lines)) (now (x .areas)) (now (x .volumes)) (now (x .curves)) (now (x .steps))) (bench (now (x .other-positions)) (now (x .other-marks)) (now (x .other-points)) (now (x .other-lines)) (now (x .other-areas)) (now (x .other-volumes)) (now (x .other-curves)) (now (x .other-steps))) (now (x .book)) (now (x .sums)) (now (x .tallies))) in let j = c .before .before .before .before .before .before .before .before .before .before .before .before .before .before .before .before .before .before .before .before .before .before .before .before .before .before .before .before .before .before .before .before .before .before .before .before .before .before .before .before .before .before .before .before .before .before .before .before .before .before .before .before .before .before .before .before .before .before .before .before .before .before .before .judge .ensures d refl (record { bench = refl; sum = refl; tally = refl }) in let e = accepted-by j (c .before .before .before .before .before .before .before .before .before .before .before .before .before .before .before .before .before .before .before .before .before .before .before .before .before .before .before .before .before .before .before .before .before .before .before .before .before .before .before .before .before .before .before .before .before .before .before .before .before .before .before .before .before .before .before .before .before .before .before .before .before .enum-told .given .1) in runs (kindOf (x .kind)) (x .sizes) d (x .smooth-time) e steady-binary32 (x .depth) _ _ (c .before .before .before .before .before .before .before .before .before .before .before .before .before .before .before .before .before .before .before .before .before .before .before .before .before .before .before .before .before .before .before .before .before .before .before .before .before .before .run .ensures)
 
 pub subdivide-spec : {M : Type 1} → statement M
 subdivide-spec =

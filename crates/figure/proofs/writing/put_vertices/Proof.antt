@@ -2,6 +2,7 @@
 use native.Mathlib.Omega.{arith}
 use Prim.Native.Nat.{ℕ, _-_, _+_, _*_, _≤_}
 use Rattle.vertices.specs.Cells.{Laid}
+use Rattle.geom.specs.Floats.{binary32}
 use Rattle.vertices.proofs.Making.{laid-start, laid-points, laid-words, laid-row, laid-more}
 use Rattle.fields.specs.Fields.{vertexAt, verticesAt}
 use Rattle.figure.proofs.Elements.{vertices-over}
@@ -16,7 +17,7 @@ abbrev μ-loop : tie.MeasureT-loop
 μ-loop file at positions₀ marks₀ n i₀ positions marks i = n - i
 
 loop-holds : tie.Need-loop-holds Inv-loop μ-loop
-loop-holds c = (omega arith, laid-start _ _ _ (λ (i : ℕ). vertexAt (c .before .before .before .args .file .now) (c .before .before .before .args .at + 25 * i)))
+loop-holds c = (omega arith, laid-start binary32 _ _ _ (λ (i : ℕ). vertexAt (c .before .before .before .args .file .now) (c .before .before .before .args .at + 25 * i)))
 
 mul-vertex-of : tie.Need-mul-vertex-of Inv-loop μ-loop
 mul-vertex-of c = omega (arith, c .before .before .before .before .before .pre .0, c .before .before .before .before .before .good)
@@ -28,7 +29,7 @@ vertex-of-requires : tie.Need-vertex-of-requires Inv-loop μ-loop
 vertex-of-requires c κs = omega (arith, c .before .before .before .before .before .pre .0)
 
 put-vertex-requires : tie.Need-put-vertex-requires Inv-loop μ-loop
-put-vertex-requires c κs = laid-row _ _ _ _ _ _ (c .before .before .before .before .loop .inv .1) _ _ (c .before .before .before .before .before .before .before .before .pre .1) (c .before .before .before .loop-test .taken)
+put-vertex-requires c κs = laid-row binary32 _ _ _ _ _ _ (c .before .before .before .before .loop .inv .1) _ _ (c .before .before .before .before .before .before .before .before .pre .1) (c .before .before .before .loop-test .taken)
 
 add-i : tie.Need-add-i Inv-loop μ-loop
 add-i c = search needs
@@ -37,13 +38,13 @@ loop-less : tie.Need-loop-less Inv-loop μ-loop
 loop-less c = search needs
 
 loop-again : tie.Need-loop-again Inv-loop μ-loop
-loop-again c = (omega arith, laid-more _ _ _ (λ (i : ℕ). vertexAt (c .before .before .before .before .before .before .before .before .before .before .before .before .before .args .file .now) (c .before .before .before .before .before .before .before .before .before .before .before .before .before .args .at + 25 * i)) _ _ _ _ _ _ _ (c .before .before .before .before .before .before .before .before .before .loop .inv .1) (omega arith) (c .before .before .before .before .before .before .before .vertex-of .ensures) (c .before .before .before .before .put-vertex .ensures))
+loop-again c = (omega arith, laid-more binary32 _ _ _ (λ (i : ℕ). vertexAt (c .before .before .before .before .before .before .before .before .before .before .before .before .before .args .file .now) (c .before .before .before .before .before .before .before .before .before .before .before .before .before .args .at + 25 * i)) _ _ _ _ _ _ _ (c .before .before .before .before .before .before .before .before .before .loop .inv .1) (omega arith) (c .before .before .before .before .before .before .before .vertex-of .ensures) (c .before .before .before .before .put-vertex .ensures))
 
 same-length : tie.Need-same-length Inv-loop μ-loop
-same-length c = laid-points _ _ _ _ _ _ (c .before .loop .inv .1)
+same-length c = laid-points binary32 _ _ _ _ _ _ (c .before .loop .inv .1)
 
 same-length-2 : tie.Need-same-length-2 Inv-loop μ-loop
-same-length-2 c = laid-words _ _ _ _ _ _ (c .before .loop .inv .1)
+same-length-2 c = laid-words binary32 _ _ _ _ _ _ (c .before .loop .inv .1)
 
 returns : tie.Need-returns Inv-loop μ-loop
 returns c = vertices-over _ _ _ _ _ _ _ _ (c .before .loop .inv .0) (c .loop-test .left) (c .before .before .before .before .before .pre .1) (c .before .loop .inv .1)

@@ -1,5 +1,6 @@
 -- `judge::mesh::handed_in` meets its contract: the tests are made in the order of the refusals, and what passed leaves room for what comes next.
 -- Assumes nothing.
+use Rattle.geom.specs.Forms.{floats}
 use borrow.Author.Needs.{needs}
 use mathlib.Core.Path.{_≡_, refl, sym, _∙_}
 use mathlib.Core.Bool.{true}
@@ -22,17 +23,17 @@ rows s = rowsOf (kindOf (s .args .kind)) (s .args .sizes) (words s)
 
 -- what the tests that passed say
 counted : (c : tie.Else1) → countsHold (kindOf (c .before .before .before .before .before .before .before .before .before .before .args .kind)) (c .before .before .before .before .before .before .before .before .before .before .args .sizes) (words (c .before .before .before .before .before .before .before .before .before .before)) ≡ true
-counted c = sym (c .before .counts-hold .ensures (words (c .before .before .before .before .before .before .before .before .before .before)) refl refl) ∙ not-false _ (c .if1 .left)
+counted c = sym (c .before .counts-hold .ensures floats (words (c .before .before .before .before .before .before .before .before .before .before)) refl refl) ∙ not-false _ (c .if1 .left)
 
 marked : (c : tie.Else3) → marksHold (rows (c .before .before .before .before .before .before .before .before .before .before .before .before .before)) ≡ true
-marked c = sym (c .before .marks-hold .ensures (c .before .before .before .before .before .before .before .before .before .before .before .before .before .args .positions .now) (c .before .before .before .before .before .before .before .before .before .before .before .before .before .args .points .now)) ∙ not-false _ (c .if3 .left)
+marked c = sym (c .before .marks-hold .ensures floats (c .before .before .before .before .before .before .before .before .before .before .before .before .before .args .positions .now) (c .before .before .before .before .before .before .before .before .before .before .before .before .before .args .points .now)) ∙ not-false _ (c .if3 .left)
 
 placed : (c : tie.Else5) → positionsHold (rows (c .before .before .before .before .before .before .before .before .before .before .before .before .before .before .before .before)) ≡ true
 unfolding positionsHold rowsOf
 placed c = sym (c .before .positions-hold .ensures (c .before .before .before .before .before .before .before .before .before .before .before .before .before .before .before .before .args .marks .now)) ∙ not-false _ (c .if5 .left)
 
 numbered : (c : tie.Else6) → numbersHold (c .before .before .before .before .before .before .before .before .before .before .before .before .before .before .before .before .before .before .args .sizes .vertices) (rows (c .before .before .before .before .before .before .before .before .before .before .before .before .before .before .before .before .before .before)) ≡ true
-numbered c = sym (c .before .numbers-hold .ensures (c .before .before .before .before .before .before .before .before .before .before .before .before .before .before .before .before .before .before .args .positions .now) (c .before .before .before .before .before .before .before .before .before .before .before .before .before .before .before .before .before .before .args .marks .now) (c .before .before .before .before .before .before .before .before .before .before .before .before .before .before .before .before .before .before .args .curves .now)) ∙ not-false _ (c .if6 .left)
+numbered c = sym (c .before .numbers-hold .ensures floats (c .before .before .before .before .before .before .before .before .before .before .before .before .before .before .before .before .before .before .args .positions .now) (c .before .before .before .before .before .before .before .before .before .before .before .before .before .before .before .before .before .before .args .marks .now) (c .before .before .before .before .before .before .before .before .before .before .before .before .before .before .before .before .before .before .args .curves .now)) ∙ not-false _ (c .if6 .left)
 
 curved : (c : tie.Else7) → every goodCurve (rows (c .before .before .before .before .before .before .before .before .before .before .before .before .before .before .before .before .before .before .before .before) .curves) ≡ true
 unfolding rowsOf
@@ -43,7 +44,7 @@ counts-hold-requires c κs = search needs
 
 returns : tie.Need-returns
 unfolding verdictOf
-returns c = due-counts (kindOf (c .before .before .before .before .before .before .before .before .before .before .args .kind)) (c .before .before .before .before .before .before .before .before .before .before .args .sizes) (words (c .before .before .before .before .before .before .before .before .before .before)) (c .before .before .before .before .before .before .before .before .before .before .args .nine) (c .before .before .before .before .before .before .before .before .before .before .args .five) (sym (c .before .counts-hold .ensures (words (c .before .before .before .before .before .before .before .before .before .before)) refl refl) ∙ not-true _ (c .if1 .taken))
+returns c = due-counts (kindOf (c .before .before .before .before .before .before .before .before .before .before .args .kind)) (c .before .before .before .before .before .before .before .before .before .before .args .sizes) (words (c .before .before .before .before .before .before .before .before .before .before)) (c .before .before .before .before .before .before .before .before .before .before .args .nine) (c .before .before .before .before .before .before .before .before .before .before .args .five) (sym (c .before .counts-hold .ensures floats (words (c .before .before .before .before .before .before .before .before .before .before)) refl refl) ∙ not-true _ (c .if1 .taken))
 
 returns-2 : tie.Need-returns-2
 unfolding verdictOf
@@ -54,7 +55,7 @@ marks-hold-requires c κs = counts-marked (kindOf (c .before .before .before .be
 
 returns-3 : tie.Need-returns-3
 unfolding verdictOf
-returns-3 c = due-marks (kindOf (c .before .before .before .before .before .before .before .before .before .before .before .before .before .args .kind)) (c .before .before .before .before .before .before .before .before .before .before .before .before .before .args .sizes) (words (c .before .before .before .before .before .before .before .before .before .before .before .before .before)) (c .before .before .before .before .before .before .before .before .before .before .before .before .before .args .nine) (c .before .before .before .before .before .before .before .before .before .before .before .before .before .args .five) (counted (c .before .before .before)) (not-false _ (c .before .before .if2 .left)) (sym (c .before .marks-hold .ensures (c .before .before .before .before .before .before .before .before .before .before .before .before .before .args .positions .now) (c .before .before .before .before .before .before .before .before .before .before .before .before .before .args .points .now)) ∙ not-true _ (c .if3 .taken))
+returns-3 c = due-marks (kindOf (c .before .before .before .before .before .before .before .before .before .before .before .before .before .args .kind)) (c .before .before .before .before .before .before .before .before .before .before .before .before .before .args .sizes) (words (c .before .before .before .before .before .before .before .before .before .before .before .before .before)) (c .before .before .before .before .before .before .before .before .before .before .before .before .before .args .nine) (c .before .before .before .before .before .before .before .before .before .before .before .before .before .args .five) (counted (c .before .before .before)) (not-false _ (c .before .before .if2 .left)) (sym (c .before .marks-hold .ensures floats (c .before .before .before .before .before .before .before .before .before .before .before .before .before .args .positions .now) (c .before .before .before .before .before .before .before .before .before .before .before .before .before .args .points .now)) ∙ not-true _ (c .if3 .taken))
 
 returns-4 : tie.Need-returns-4
 unfolding verdictOf
@@ -72,7 +73,7 @@ numbers-hold-requires c κs = counts-numbered (kindOf (c .before .before .before
 
 returns-6 : tie.Need-returns-6
 unfolding verdictOf
-returns-6 c = due-numbers (kindOf (c .before .before .before .before .before .before .before .before .before .before .before .before .before .before .before .before .before .before .args .kind)) (c .before .before .before .before .before .before .before .before .before .before .before .before .before .before .before .before .before .before .args .sizes) (words (c .before .before .before .before .before .before .before .before .before .before .before .before .before .before .before .before .before .before)) (c .before .before .before .before .before .before .before .before .before .before .before .before .before .before .before .before .before .before .args .nine) (c .before .before .before .before .before .before .before .before .before .before .before .before .before .before .before .before .before .before .args .five) (counted (c .before .before .before .before .before .before .before .before)) (not-false _ (c .before .before .before .before .before .before .before .if2 .left)) (marked (c .before .before .before .before .before)) (not-false _ (c .before .before .before .before .if4 .left)) (placed (c .before .before)) (sym (c .before .numbers-hold .ensures (c .before .before .before .before .before .before .before .before .before .before .before .before .before .before .before .before .before .before .args .positions .now) (c .before .before .before .before .before .before .before .before .before .before .before .before .before .before .before .before .before .before .args .marks .now) (c .before .before .before .before .before .before .before .before .before .before .before .before .before .before .before .before .before .before .args .curves .now)) ∙ not-true _ (c .if6 .taken))
+returns-6 c = due-numbers (kindOf (c .before .before .before .before .before .before .before .before .before .before .before .before .before .before .before .before .before .before .args .kind)) (c .before .before .before .before .before .before .before .before .before .before .before .before .before .before .before .before .before .before .args .sizes) (words (c .before .before .before .before .before .before .before .before .before .before .before .before .before .before .before .before .before .before)) (c .before .before .before .before .before .before .before .before .before .before .before .before .before .before .before .before .before .before .args .nine) (c .before .before .before .before .before .before .before .before .before .before .before .before .before .before .before .before .before .before .args .five) (counted (c .before .before .before .before .before .before .before .before)) (not-false _ (c .before .before .before .before .before .before .before .if2 .left)) (marked (c .before .before .before .before .before)) (not-false _ (c .before .before .before .before .if4 .left)) (placed (c .before .before)) (sym (c .before .numbers-hold .ensures floats (c .before .before .before .before .before .before .before .before .before .before .before .before .before .before .before .before .before .before .args .positions .now) (c .before .before .before .before .before .before .before .before .before .before .before .before .before .before .before .before .before .before .args .marks .now) (c .before .before .before .before .before .before .before .before .before .before .before .before .before .before .before .before .before .before .args .curves .now)) ∙ not-true _ (c .if6 .taken))
 
 curves-hold-requires : tie.Need-curves-hold-requires
 curves-hold-requires c κs = counts-curves (kindOf (c .before .before .before .before .before .before .before .before .before .before .before .before .before .before .before .before .before .before .args .kind)) (c .before .before .before .before .before .before .before .before .before .before .before .before .before .before .before .before .before .before .args .sizes) (words (c .before .before .before .before .before .before .before .before .before .before .before .before .before .before .before .before .before .before)) (counted (c .before .before .before .before .before .before .before .before))

@@ -1,5 +1,6 @@
 -- `judge::words::positions_hold` meets its contract: it is known whether the coordinates passed are within. Assumes nothing.
 use native.Mathlib.Omega.{arith}
+use Rattle.geom.specs.Floats.{binary32}
 use borrow.Author.Needs.{needs}
 use mathlib.Core.Path.{_≡_, sym, _∙_, ap}
 use Prim.Native.Nat.{ℕ, _-_, _≤_}
@@ -39,7 +40,7 @@ loop-again : tie.Need-loop-again Inv-loop μ-loop
 loop-again c = (omega arith, every-with _ _ _ _ _ (c .before .before .before .loop .inv .1) (c .coordinate-holds .ensures ∙ ap goodCoordinate (c .before .number .ensures)))
 
 returns : tie.Need-returns Inv-loop μ-loop
-returns c = λ marks. every-done _ _ _ _ _ (c .before .loop .inv .0) (c .loop-test .left) (c .before .loop .inv .1) ∙ positions-words _ marks _
+returns c = λ marks. every-done _ _ _ _ _ (c .before .loop .inv .0) (c .loop-test .left) (c .before .loop .inv .1) ∙ positions-words binary32 _ marks _
 
 pub positions-hold-spec : {M : Type 1} → statement M
 positions-hold-spec =

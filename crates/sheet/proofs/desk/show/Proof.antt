@@ -1,7 +1,8 @@
 -- `sheet::desk::show` meets its contract: the parts that are handed on have the rows of the bench that is listed. Assumes nothing.
 use Rattle.geom.specs.Kinds.{kindOf}
 use Rattle.geom.specs.Sheet.{SHEET-CELLS}
-use Rattle.judge.proofs.Verdicts.{within-facts, area-few, volume-few}
+use Rattle.geom.proofs.Within.{within-facts}
+use Rattle.judge.proofs.Verdicts.{area-few, volume-few}
 use Rattle.sheet.proofs.Picking.{few-words, wide-part, listed-handed, stated-handed}
 use Rattle.sheet.proofs.Pages.{printed-as}
 use native.Mathlib.Omega.{arith}

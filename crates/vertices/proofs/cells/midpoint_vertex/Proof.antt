@@ -1,6 +1,6 @@
 -- `vertices::cells::midpoint_vertex` meets its contract. Assumes nothing.
 use borrow.Author.Needs.{needs}
-use Rattle.geom.specs.Vertices.{strand, midpointVertex}
+use Rattle.geom.specs.Vertices.{strand, midpointIn}
 use Rattle.vertices.proofs.cells.midpoint_vertex.Statement.{statement}
 use Rattle.vertices.proofs.cells.midpoint_vertex.Tie as tie
 
@@ -8,7 +8,7 @@ midpoint-requires : tie.Need-midpoint-requires
 midpoint-requires c κs = search needs
 
 returns : tie.Need-returns
-unfolding strand midpointVertex
+unfolding strand midpointIn
 returns c = cc
 
 pub midpoint-vertex-spec : {M : Type 1} → statement M

@@ -1,6 +1,6 @@
 -- `vertices::cells::point_at` meets its contract. Assumes nothing.
+use Rattle.geom.specs.Memory.{fourRow}
 use borrow.Author.Needs.{needs}
-use Rattle.vertices.specs.Cells.{pointRow}
 use Rattle.vertices.proofs.cells.point_at.Statement.{statement}
 use Rattle.vertices.proofs.cells.point_at.Tie as tie
 
@@ -38,7 +38,7 @@ number-requires-4 : tie.Need-number-requires-4
 number-requires-4 c κs = search needs
 
 returns : tie.Need-returns
-unfolding pointRow
+unfolding fourRow
 returns c = cc
 
 pub point-at-spec : {M : Type 1} → statement M

@@ -1,7 +1,6 @@
 -- `vertices::cells::vertex_at` meets its contract. Assumes nothing.
 use borrow.Author.Needs.{needs}
-use Rattle.geom.specs.Memory.{vertexRow}
-use Rattle.vertices.specs.Cells.{pointRow}
+use Rattle.geom.specs.Memory.{fourRow, vertexRowIn}
 use Rattle.vertices.proofs.cells.vertex_at.Statement.{statement}
 use Rattle.vertices.proofs.cells.vertex_at.Tie as tie
 
@@ -42,7 +41,7 @@ shared-slice-read-t18 : tie.Need-shared-slice-read-t18
 shared-slice-read-t18 c = search needs
 
 returns : tie.Need-returns
-unfolding vertexRow pointRow
+unfolding vertexRowIn fourRow
 returns c = cc
 
 pub vertex-at-spec : {M : Type 1} → statement M

@@ -2,18 +2,19 @@
 use native.Mathlib.Omega.{arith}
 use borrow.Author.Needs.{needs}
 use Prim.Native.Nat.{_-_}
+use Rattle.geom.specs.Floats.{binary32}
 use Rattle.vertices.proofs.Gathering.{Clearing, clearing-start, clearing-on}
 use Rattle.vertices.proofs.gather.clear.Statement.{statement}
 use Rattle.vertices.proofs.gather.clear.Tie as tie
 
 abbrev Inv-loop : tie.InvT-loop
-Inv-loop sums₀ tallies₀ count i₀ sums tallies i = Clearing sums₀ tallies₀ count sums tallies i
+Inv-loop sums₀ tallies₀ count i₀ sums tallies i = Clearing binary32 sums₀ tallies₀ count sums tallies i
 
 abbrev μ-loop : tie.MeasureT-loop
 μ-loop sums₀ tallies₀ count i₀ sums tallies i = count - i
 
 loop-holds : tie.Need-loop-holds Inv-loop μ-loop
-loop-holds c = clearing-start _ _ _
+loop-holds c = clearing-start binary32 _ _ _
 
 zero-requires : tie.Need-zero-requires Inv-loop μ-loop
 zero-requires c κs = search needs
@@ -28,7 +29,7 @@ loop-less : tie.Need-loop-less Inv-loop μ-loop
 loop-less c = search needs
 
 loop-again : tie.Need-loop-again Inv-loop μ-loop
-loop-again c = clearing-on _ _ _ _ _ _ _ _ _ (c .before .before .before .before .before .before .before .before .before .loop .inv) (c .before .before .before .before .before .before .before .before .loop-test .taken) (c .before .before .before .before .put-gathered .kept .0) (c .before .before .before .before .put-gathered .kept .1 .0) (c .before .before .before .before .before .zero .ensures) (c .before .before .before .before .put-gathered .ensures)
+loop-again c = clearing-on binary32 _ _ _ _ _ _ _ _ _ (c .before .before .before .before .before .before .before .before .before .loop .inv) (c .before .before .before .before .before .before .before .before .loop-test .taken) (c .before .before .before .before .put-gathered .kept .0) (c .before .before .before .before .put-gathered .kept .1 .0) (c .before .before .before .before .before .zero .ensures) (c .before .before .before .before .put-gathered .ensures)
 
 same-length : tie.Need-same-length Inv-loop μ-loop
 same-length c = c .before .loop .inv .long

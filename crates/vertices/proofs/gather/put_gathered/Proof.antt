@@ -1,5 +1,6 @@
 -- `vertices::gather::put_gathered` meets its contract. Assumes nothing.
 use borrow.Author.Needs.{needs}
+use Rattle.geom.specs.Floats.{binary32}
 use Rattle.vertices.proofs.Gathering.{row-put}
 use Rattle.vertices.proofs.gather.put_gathered.Statement.{statement}
 use Rattle.vertices.proofs.gather.put_gathered.Tie as tie
@@ -17,7 +18,7 @@ same-length-2 : tie.Need-same-length-2
 same-length-2 c = search needs
 
 returns : tie.Need-returns
-returns c = row-put _ _ _ _ _ _ _ _ (c .before .before .before .before .before .before .before .before .before .before .pre) (c .before .before .before .before .before .before .put-point .ensures) (c .before .before .put-tally .ensures)
+returns c = row-put binary32 _ _ _ _ _ _ _ _ (c .before .before .before .before .before .before .before .before .before .before .pre) (c .before .before .before .before .before .before .put-point .ensures) (c .before .before .put-tally .ensures)
 
 pub put-gathered-spec : {M : Type 1} → statement M
 put-gathered-spec =

@@ -2,7 +2,8 @@
 use native.Mathlib.Omega.{arith}
 use borrow.Author.Needs.{needs}
 use mathlib.Core.Path.{refl, sym, _∙_}
-use Rattle.vertices.specs.Cells.{gatheredRow}
+use Rattle.vertices.specs.Cells.{gatheredRowIn}
+use Rattle.geom.specs.Floats.{binary32}
 use Rattle.vertices.proofs.Gathering.{update-off, update-on}
 use Rattle.vertices.proofs.gather.update.Statement.{statement}
 use Rattle.vertices.proofs.gather.update.Tie as tie
@@ -38,13 +39,13 @@ same-length : tie.Need-same-length
 same-length c = search needs
 
 returns : tie.Need-returns
-returns c = update-off _ _ _ _ _ _ refl (sym (c .before .ignored .ensures) ∙ c .if1 .taken)
+returns c = update-off binary32 _ _ _ _ _ _ refl (sym (c .before .ignored .ensures) ∙ c .if1 .taken)
 
 add-requires : tie.Need-add-requires
 add-requires c κs = search needs
 
 add-put-gathered : tie.Need-add-put-gathered
-unfolding gatheredRow
+unfolding gatheredRowIn
 add-put-gathered c = omega arith
 
 put-gathered-requires : tie.Need-put-gathered-requires
@@ -57,7 +58,7 @@ same-length-3 : tie.Need-same-length-3
 same-length-3 c = search needs
 
 returns-2 : tie.Need-returns-2
-returns-2 c = update-on _ _ _ _ _ _ _ _ (c .before .before .before .before .before .before .before .before .before .before .before .before .point-at .ensures) refl refl (sym (c .before .before .before .before .before .before .before .before .before .ignored .ensures) ∙ c .before .before .before .before .before .before .before .before .if1 .left) _ (c .before .before .before .before .before .add .ensures) _ _ (c .before .before .before .before .put-gathered .ensures)
+returns-2 c = update-on binary32 _ _ _ _ _ _ _ _ (c .before .before .before .before .before .before .before .before .before .before .before .before .point-at .ensures) refl refl (sym (c .before .before .before .before .before .before .before .before .before .ignored .ensures) ∙ c .before .before .before .before .before .before .before .before .if1 .left) _ (c .before .before .before .before .before .add .ensures) _ _ (c .before .before .before .before .put-gathered .ensures)
 
 pub update-spec : {M : Type 1} → statement M
 update-spec =

@@ -1,5 +1,6 @@
 -- `vertices::make::copy_vertices` meets its contract: all words of the vertices stand on the other bench. Assumes nothing.
 use borrow.Author.Needs.{needs}
+use Rattle.geom.specs.Floats.{binary32}
 use Rattle.vertices.proofs.Making.{laid-copied}
 use Rattle.vertices.proofs.make.copy_vertices.Statement.{statement}
 use Rattle.vertices.proofs.make.copy_vertices.Tie as tie
@@ -23,7 +24,7 @@ same-length-2 : tie.Need-same-length-2
 same-length-2 c = search needs
 
 returns : tie.Need-returns
-returns c = laid-copied _ _ _ (c .before .before .before .before .before .before .before .before .before .before .before .before .pre .0) _ _ _ _ (c .before .before .before .before .before .before .before .before .before .before .before .before .pre .1) (c .before .before .before .before .before .before .copy-floats .ensures) (c .before .before .copy-words .ensures)
+returns c = laid-copied binary32 _ _ _ (c .before .before .before .before .before .before .before .before .before .before .before .before .pre .0) _ _ _ _ (c .before .before .before .before .before .before .before .before .before .before .before .before .pre .1) (c .before .before .before .before .before .before .copy-floats .ensures) (c .before .before .copy-words .ensures)
 
 pub copy-vertices-spec : {M : Type 1} → statement M
 copy-vertices-spec =

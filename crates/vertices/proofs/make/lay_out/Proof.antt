@@ -1,5 +1,6 @@
 -- `vertices::make::lay_out` meets its contract: the old vertices, and behind them the new ones. Assumes nothing.
 use borrow.Author.Needs.{needs}
+use Rattle.geom.specs.Floats.{binary32}
 use Rattle.vertices.proofs.Making.{laid-out, laid-stand, laid-fewer}
 use Rattle.vertices.proofs.make.lay_out.Statement.{statement}
 use Rattle.vertices.proofs.make.lay_out.Tie as tie
@@ -8,7 +9,7 @@ copy-vertices-requires : tie.Need-copy-vertices-requires
 copy-vertices-requires c κs = (c .before .before .before .before .before .before .before .pre .0, laid-fewer _ _ _ _ (c .before .before .before .before .before .before .before .pre .1 .0))
 
 make-vertices-requires : tie.Need-make-vertices-requires
-make-vertices-requires c κs = (c .before .before .before .before .before .before .before .before .before .before .before .before .before .before .pre .0, (laid-stand _ _ _ _ _ _ (c .before .before .before .before .before .before .copy-vertices .ensures) _ (c .before .before .before .before .before .before .before .before .before .before .before .before .before .before .pre .1 .0), c .before .before .before .before .before .before .before .before .before .before .before .before .before .before .pre .1 .1))
+make-vertices-requires c κs = (c .before .before .before .before .before .before .before .before .before .before .before .before .before .before .pre .0, (laid-stand binary32 _ _ _ _ _ _ (c .before .before .before .before .before .before .copy-vertices .ensures) _ (c .before .before .before .before .before .before .before .before .before .before .before .before .before .before .pre .1 .0), c .before .before .before .before .before .before .before .before .before .before .before .before .before .before .pre .1 .1))
 
 same-length : tie.Need-same-length
 same-length c = search needs
@@ -17,7 +18,7 @@ same-length-2 : tie.Need-same-length-2
 same-length-2 c = search needs
 
 returns : tie.Need-returns
-returns c = laid-out _ _ _ _ _ _ _ _ _ _ _ (c .before .before .before .before .before .before .before .before .before .before .before .before .before .before .before .before .before .before .before .pre .1 .0) (c .before .before .before .before .before .before .before .before .before .before .before .copy-vertices .ensures) (c .before .before .before .before .make-vertices .ensures)
+returns c = laid-out binary32 _ _ _ _ _ _ _ _ _ _ _ (c .before .before .before .before .before .before .before .before .before .before .before .before .before .before .before .before .before .before .before .pre .1 .0) (c .before .before .before .before .before .before .before .before .before .before .before .copy-vertices .ensures) (c .before .before .before .before .make-vertices .ensures)
 
 pub lay-out-spec : {M : Type 1} → statement M
 lay-out-spec =

@@ -1,5 +1,6 @@
 -- `vertices::make::pair_vertex` meets its contract. Assumes nothing.
 use borrow.Author.Needs.{needs}
+use Rattle.geom.specs.Floats.{binary32}
 use Rattle.vertices.proofs.Making.{first-row, second-row, pair-made}
 use Rattle.vertices.proofs.make.pair_vertex.Statement.{statement}
 use Rattle.vertices.proofs.make.pair_vertex.Tie as tie
@@ -29,7 +30,7 @@ midpoint-vertex-requires : tie.Need-midpoint-vertex-requires
 midpoint-vertex-requires c κs = search needs
 
 returns : tie.Need-returns
-returns c = pair-made _ _ _ _ _ _ _ _ _ _ (c .before .before .before .before .before .before .before .before .pre .1) (c .before .before .before .before .word .ensures) (c .before .before .before .word2 .ensures) (c .before .before .vertex-at .ensures) (c .before .vertex-at2 .ensures) (c .midpoint-vertex .ensures)
+returns c = pair-made binary32 _ _ _ _ _ _ _ _ _ _ (c .before .before .before .before .before .before .before .before .pre .1) (c .before .before .before .before .word .ensures) (c .before .before .before .word2 .ensures) (c .before .before .vertex-at .ensures) (c .before .vertex-at2 .ensures) (c .midpoint-vertex .ensures)
 
 pub pair-vertex-spec : {M : Type 1} → statement M
 pair-vertex-spec =

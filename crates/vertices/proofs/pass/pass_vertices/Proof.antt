@@ -5,6 +5,7 @@ use borrow.Author.Needs.{needs}
 use Rattle.geom.specs.Kinds.{kindOf}
 use Rattle.geom.specs.Memory.{areaCorners, volumeCorners, vertexRow}
 use Rattle.vertices.specs.Cells.{listsOf}
+use Rattle.geom.specs.Floats.{binary32}
 use Rattle.vertices.proofs.Making.{length-laid}
 use Rattle.vertices.proofs.Passed.{over-smoothed, over-unsmoothed}
 use Rattle.vertices.proofs.pass.pass_vertices.Statement.{statement}
@@ -52,7 +53,7 @@ returns-2 c =
     let s = c .before .before .before .before .before .before .before .before .before .before .before .before .before .before .before .before .before .before .before .before .before .before .before .before .before .before .before .before .before .before .args in
     let kind = kindOf (s .kind) in
     λ curves.
-    over-smoothed kind (s .time) (listsOf (s .lines .now) (s .line) (areaCorners kind) (s .areas .now) (s .area) (volumeCorners kind) (s .volumes .now) (s .volume) curves) _ _ _ _ _ _ _ (length-laid (vertexRow (s .old .now) (s .marks .now)) (s .book .now) (s .count) (s .start) (s .new)) (c .before .before .before .before .before .before .before .before .before .before .before .before .before .before .before .before .before .lay-out .ensures) (c .before .before .before .before .before .before .smooth .ensures curves)
+    over-smoothed kind (s .time) (listsOf (s .lines .now) (s .line) (areaCorners kind) (s .areas .now) (s .area) (volumeCorners kind) (s .volumes .now) (s .volume) curves) _ _ _ _ _ _ _ (length-laid binary32 (vertexRow (s .old .now) (s .marks .now)) (s .book .now) (s .count) (s .start) (s .new)) (c .before .before .before .before .before .before .before .before .before .before .before .before .before .before .before .before .before .lay-out .ensures) (c .before .before .before .before .before .before .smooth .ensures curves)
 
 pub pass-vertices-spec : {M : Type 1} → statement M
 pass-vertices-spec =
