@@ -3,7 +3,7 @@
 use crate::{
     block::{block, sheet},
     case::Case,
-    crafted::{anywhere, deep_in_one_bucket, in_one_bucket, verts},
+    crafted::{anywhere, deep_in_one_bucket, in_one_bucket, in_one_chain, verts},
     derived::{Call, Entry},
     desk::Desk,
     draw::{needs, sizes},
@@ -173,6 +173,7 @@ pub fn lines() {
     for lines in [3_000, 30_000, 300_000] {
         for (name, mesh) in [
             ("anywhere", anywhere(lines)),
+            ("in one chain", in_one_chain(lines)),
             ("in one bucket", in_one_bucket(lines)),
             (
                 "deep in one bucket",

@@ -1,6 +1,6 @@
-//! Meshes of lines that are hard on the midpoint book, and such as are not. A book has as many buckets as lent cells, and a fixed mix of both ends
-//! says into which a pair falls (crates/index): who knows it can choose lines that all fall into one. A chain behind the bucket would then be
-//! walked from end to end, and a tree is as deep as the bits of the pairs make it.
+//! Meshes of lines that are hard on the midpoint book, and such as are not. A book has as many buckets as lent cells, and a fixed rule says into
+//! which a pair falls (crates/index): who knows it can choose lines that all fall into one. A chain behind the bucket would then be walked from
+//! end to end, and a tree is as deep as the bits of the pairs make it.
 //!
 //! The crate lends a book as many cells as a pass can make midpoints, so that there are as many buckets as lines.
 use reference::{
@@ -8,33 +8,31 @@ use reference::{
     random::Rng,
 };
 
-/// The mix of [a,b]: (a·FIRST + b)·SECOND, of which 32 bits count; that times the buckets, divided by 2^32, is the bucket.
-const FIRST: u32 = 2_654_435_761;
-const SECOND: u32 = 2_246_822_507;
-
 /// So many vertices for a line: the more there are, the more pairs fall into a bucket, and the deeper the tree can be made; but then the
 /// vertices are most of the work. 300,000 lines with theirs and their midpoints are just within the limit.
 pub fn verts(lines: u32) -> u32 {
     lines * 12 / 5
 }
 
-/// Lines that the others are measured against: those of the deepest tree, with their second ends dealt anew, so that the pairs fall anywhere.
+/// Lines that the others are measured against: no vertex is the first end of two, nor the second.
 pub fn anywhere(lines: u32) -> Mesh {
-    let mut pairs = deep_pairs(lines, verts(lines));
-    let mut seconds: Vec<u32> = pairs.iter().map(|[_, b]| *b).collect();
+    let [mut firsts, mut seconds] = [0, 1].map(|_| (0..verts(lines)).collect::<Vec<u32>>());
+    shuffle(&mut firsts);
+    firsts.truncate(lines as usize);
     shuffle(&mut seconds);
-    for (pair, second) in pairs.iter_mut().zip(seconds) {
-        pair[1] = second;
-    }
-    mesh(verts(lines), pairs)
+    seconds.reverse();
+    let pairs = firsts.into_iter().zip(seconds).map(|(a, b)| [a, b]);
+    mesh(verts(lines), pairs.collect())
 }
 
 /// Lines whose pairs all fall into bucket 0.
 pub fn in_one_bucket(lines: u32) -> Mesh {
     let mut seconds: Vec<u32> = (0..verts(lines)).collect();
     shuffle(&mut seconds);
-    let pairs = pairs_of_bucket_0(lines, verts(lines), seconds);
-    mesh(verts(lines), pairs)
+    mesh(
+        verts(lines),
+        pairs_of_bucket_0(lines, verts(lines), seconds),
+    )
 }
 
 /// Lines whose pairs all fall into bucket 0, where its tree is the deepest.
@@ -49,28 +47,60 @@ fn deep_pairs(lines: u32, verts: u32) -> Vec<[u32; 2]> {
     pairs_of_bucket_0(lines, verts, seconds)
 }
 
-/// As many pairs as lines that fall into bucket 0: their mix is below 2^32 / buckets. For a second end b the mix is a·FIRST·SECOND, turned by
-/// b·SECOND; so where these products stand in order, the first ends that b has follow each other. The pairs come in no order, so that a search
-/// does not go where the one before has been.
+/// As many pairs as lines that fall into bucket 0: each second end with the first ends that make a number of that bucket.
 fn pairs_of_bucket_0(lines: u32, verts: u32, seconds: Vec<u32>) -> Vec<[u32; 2]> {
-    let product = |a: &u32| a.wrapping_mul(FIRST).wrapping_mul(SECOND);
+    let most = (FIRST + SECOND) * verts;
+    let numbers: Vec<u32> = (0..most).filter(|x| circled(lines, *x) == 0).collect();
+    let pairs_with = |b: u32| {
+        let rests = numbers
+            .iter()
+            .filter_map(move |x| x.checked_sub(SECOND * b));
+        let firsts = rests
+            .filter(|rest| rest % FIRST == 0)
+            .map(|rest| rest / FIRST);
+        firsts.filter(move |a| *a < verts).map(move |a| [a, b])
+    };
+    some(lines, seconds.into_iter().flat_map(pairs_with))
+}
+
+/// A pair's number is a·FIRST + b·SECOND, of which 32 bits count.
+const FIRST: u32 = 9;
+const SECOND: u32 = 2;
+
+/// The bucket of a number: the buckets go round in a circle of 2^32, and a step of a number makes half a bucket or more, less than one.
+fn circled(buckets: u32, number: u32) -> u64 {
+    let turned = number << buckets.leading_zeros();
+    u64::from(turned) * u64::from(buckets) >> 32
+}
+
+/// Lines whose pairs all fell into bucket 0 when the book had a chain behind each bucket, and mixed a pair to (a·2654435761 + b)·2246822507, of
+/// which 32 bits counted: that times the buckets, divided by 2^32, was the bucket. For a second end b this is a's own product, turned by b's; so
+/// where these products stand in order, the first ends that b has follow each other.
+pub fn in_one_chain(lines: u32) -> Mesh {
+    let verts = verts(lines);
+    let product = |a: &u32| a.wrapping_mul(2_654_435_761).wrapping_mul(2_246_822_507);
+    let turn = |b: u32| b.wrapping_mul(2_246_822_507);
     let mut firsts: Vec<u32> = (0..verts).collect();
     firsts.sort_unstable_by_key(product);
     let pairs_with = |b: u32| {
-        let zero = b.wrapping_mul(SECOND).wrapping_neg();
-        let (before, from) = firsts.split_at(firsts.partition_point(|a| product(a) < zero));
-        let pairs = from.iter().chain(before).map(move |a| [*a, b]);
-        pairs.take_while(move |pair| bucket(lines, *pair) == 0)
+        let (before, from) =
+            firsts.split_at(firsts.partition_point(|a| product(a) < turn(b).wrapping_neg()));
+        let in_order = from.iter().chain(before);
+        let mixed = move |a: &&u32| u64::from(product(a).wrapping_add(turn(b)));
+        in_order
+            .take_while(move |a| mixed(a) * u64::from(lines) >> 32 == 0)
+            .map(move |a| [*a, b])
     };
-    let all = seconds.into_iter().flat_map(pairs_with);
-    let mut pairs: Vec<_> = all.take(lines as usize).collect();
-    shuffle(&mut pairs);
-    pairs
+    let mut seconds: Vec<u32> = (0..verts).collect();
+    shuffle(&mut seconds);
+    mesh(verts, some(lines, seconds.into_iter().flat_map(pairs_with)))
 }
 
-fn bucket(buckets: u32, [a, b]: [u32; 2]) -> u64 {
-    let mix = a.wrapping_mul(FIRST).wrapping_add(b).wrapping_mul(SECOND);
-    u64::from(mix) * u64::from(buckets) >> 32
+/// As many of the pairs as there are lines, in no order, so that a search does not go where the one before has been.
+fn some(lines: u32, pairs: impl Iterator<Item = [u32; 2]>) -> Vec<[u32; 2]> {
+    let mut pairs: Vec<_> = pairs.take(lines as usize).collect();
+    shuffle(&mut pairs);
+    pairs
 }
 
 fn shuffle<T>(list: &mut [T]) {
@@ -109,6 +139,10 @@ mod tests {
 
     const LINES: u32 = 3_000;
 
+    fn bucket(buckets: u32, [a, b]: [u32; 2]) -> u64 {
+        circled(buckets, a * FIRST + b * SECOND)
+    }
+
     fn pairs(mesh: &Mesh) -> Vec<[u32; 2]> {
         let pair = |line: &Element| [line.corners[0], line.corners[1]];
         mesh.lines.iter().map(pair).collect()
@@ -133,6 +167,7 @@ mod tests {
         let deep = deep_in_one_bucket(LINES, verts(LINES));
         for (mesh, crowded) in [
             (anywhere(LINES), false),
+            (in_one_chain(LINES), false),
             (in_one_bucket(LINES), true),
             (deep, true),
         ] {
@@ -152,11 +187,12 @@ mod tests {
     fn the_trees_are_as_deep_as_can_be() {
         let found = [
             anywhere(LINES),
+            in_one_chain(LINES),
             in_one_bucket(LINES),
             deep_in_one_bucket(LINES, verts(LINES)),
             deep_in_one_bucket(LINES, 1_040_000),
         ];
         let found = found.map(|mesh| (10.0 * looks(&mesh)).round() / 10.0);
-        assert_eq!(found, [0.5, 10.1, 12.2, 37.8]);
+        assert_eq!(found, [0.5, 0.6, 10.3, 12.9, 48.6]);
     }
 }

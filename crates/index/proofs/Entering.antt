@@ -55,7 +55,7 @@ pub open-long : {L : Layout} → Sound L → {words : List ℕ} {made at : ℕ} 
 open-long {L} s {words} {made} {at} {q} l o =
     ⊎-elim
     (λ (t : Side L made at). omega (arith, side-below s t, row-before L l, lent-all L words))
-    (λ (t : at ≡ rootPlace L words (bucketOf L (cells L words) q)). omega (arith, bucket-below s (cells L words) q (omega arith), lent-all L words))
+    (λ (t : at ≡ rootPlace L words (bucketOf L (cells L words) q)). omega (arith, bucket-below L (cells L words) q (omega arith), lent-all L words))
     (open-at o)
 
 -- a link below an entry that is made stands before all later rows

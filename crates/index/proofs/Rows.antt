@@ -3,12 +3,13 @@
 use mathlib.Core.Path.{_≡_, refl, ap}
 use mathlib.Core.Logic.{⊎-elim, by-cases}
 use mathlib.Core.List.{List}
-use Prim.Native.Nat.{ℕ, zero, suc, _+_, _*_, _%_, _<_, _≤_, min}
+use Prim.Native.Nat.{ℕ, zero, suc, _+_, _*_, _%_, _^_, _<_, _≤_, min}
 use native.Mathlib.Omega.{arith}
-use native.Mathlib.Nat.{mod-lt, mul-comm, mul-suc, add-mul, mul-div-le, mul-le-mul-left, eq-or-lt-of-le}
+use native.Mathlib.Nat.{mul-comm, mul-suc, add-mul, mul-div-le, mul-le-mul-left, eq-or-lt-of-le}
 use native.Mathlib.Decide.{decLe}
+use lib.Count.{leadingZeros}
 use lib.ListN.{length, getD}
-use Rattle.index.specs.Cells.{Layout, Sound, wordAt, cells, wordsFrom, bucketOf, pairMix, pairsBeside}
+use Rattle.index.specs.Cells.{Layout, Sound, wordAt, cells, wordsFrom, circled, bucketOf, pairsBeside}
 
 -- ── places ──
 
@@ -55,27 +56,29 @@ words-same L after words e k (suc n) s =
 
 -- ── buckets ──
 
--- the mix times a range of at most 2^32 has 64 bits
-pub scaled-fits : {L : Layout} → Sound L → (n : ℕ) (q : List ℕ) {r : ℕ} → r ≡ min n 4294967296 → L .mix q * r < 18446744073709551616
-scaled-fits {L} s n q {r} e =
-    let below : L .mix q ≤ 4294967295 = omega (arith, s .mixes q) in
+-- two factors of which one is below 2^32, and the other not above, have a product of 64 bits
+pub product-fits : {m r : ℕ} → m < 4294967296 → r ≤ 4294967296 → m * r < 18446744073709551616
+product-fits {m} {r} l k =
+    let below : m ≤ 4294967295 = omega arith in
     let p = mul-le-mul-left r below in
-    omega (arith, p, mul-comm (L .mix q) r)
+    omega (arith, p, mul-comm m r)
+
+-- one of r buckets
+circled-below : (r x : ℕ) → 0 < r → circled r x < r
+unfolding circled
+circled-below r x l =
+    let turned = x * 2 ^ leadingZeros 32 r % 4294967296 in
+    let below : turned ≤ 4294967295 = omega arith in
+    let p = mul-le-mul-left r below in
+    omega (arith, p, mul-comm turned r)
 
 -- a bucket is one of the cells
-pub bucket-below : {L : Layout} → Sound L → (n : ℕ) (q : List ℕ) → 0 < n → bucketOf L n q < n
+pub bucket-below : (L : Layout) (n : ℕ) (q : List ℕ) → 0 < n → bucketOf L n q < n
 unfolding bucketOf
-bucket-below {L} s n q l =
-    let r = min n 4294967296 in
-    let below : L .mix q ≤ 4294967295 = omega (arith, s .mixes q) in
-    let p = mul-le-mul-left r below in
-    omega (arith, p, mul-comm (L .mix q) r)
+bucket-below L n q l =
+    let below = circled-below (min n 4294967295) (L .mix q) (omega arith) in
+    omega (arith, below)
 
 -- pairs, with any number of words beside them
 pub sound-pairs : (n : ℕ) → Sound (pairsBeside n)
-unfolding pairMix
-sound-pairs n =
-    record {
-      links = omega arith;
-      mixes = λ q. mod-lt ((getD q 0 0 * 2654435761 + getD q 1 0) % 4294967296 * 2246822507) (omega arith);
-    }
+sound-pairs n = record { links = omega arith }

@@ -4,23 +4,23 @@
 -- Says nothing of what the words of a row without an entry are, nor of the two words of a bucket without one, nor of the words beside.
 -- Assumes nothing.
 use mathlib.Core.List.{List, [], _∷_, _++_}
-use Prim.Native.Nat.{ℕ, zero, suc, _+_, _*_, _/_, _%_, _<_, _≤_, min}
+use Prim.Native.Nat.{ℕ, zero, suc, _+_, _*_, _/_, _%_, _^_, _<_, _≤_, min}
+use lib.Count.{leadingZeros}
 use lib.ListN.{length, getD}
 
 -- the link that leads nowhere: the number of no entry
 abbrev pub NONE : ℕ
 NONE = 4294967295
 
--- how many words a key and a row have, and a number of 32 bits from a key
+-- how many words a key and a row have, and a number from a key, by which it has its bucket
 pub record Layout : Type 0 where
   pub key : ℕ
   pub row : ℕ
   pub mix : List ℕ → ℕ
 
--- a row has the key and both links, and the mix has 32 bits
+-- a row has the key and both links
 pub record Sound (L : Layout) : Type 0 where
   pub links : L .key + 2 ≤ L .row
-  pub mixes : (q : List ℕ) → L .mix q < 4294967296
 
 -- word k of a row
 abbrev pub wordAt : Layout → List ℕ → ℕ → ℕ → ℕ
@@ -44,9 +44,13 @@ unfoldable pub keysOf : Layout → List ℕ → ℕ → List (List ℕ)
 keysOf L words zero = []
 keysOf L words (suc made) = keysOf L words made ++ keyAt L words made ∷ []
 
--- the bucket of a key among n: the mix, as a part of its range, of n (or of 2^32, if that is less)
+-- the bucket of a number among r, which go round in a circle of 2^32: a number goes as far round as makes a step of half a bucket or more, less than one
+unfoldable pub circled : ℕ → ℕ → ℕ
+circled r x = x * 2 ^ leadingZeros 32 r % 4294967296 * r / 4294967296
+
+-- the bucket of a key among n (or among 2^32 - 1, if that is less)
 unfoldable pub bucketOf : Layout → ℕ → List ℕ → ℕ
-bucketOf L n q = L .mix q * min n 4294967296 / 4294967296
+bucketOf L n q = circled (min n 4294967295) (L .mix q)
 
 -- the bucket of entry e
 abbrev pub bucketAt : Layout → List ℕ → ℕ → ℕ
@@ -54,9 +58,9 @@ bucketAt L words e = bucketOf L (cells L words) (keyAt L words e)
 
 -- ── pairs ──
 
--- a number of 32 bits from both words of a pair
+-- a number of 32 bits from both words of a pair: small steps of either make small steps of it
 unfoldable pub pairMix : List ℕ → ℕ
-pairMix q = (getD q 0 0 * 2654435761 + getD q 1 0) % 4294967296 * 2246822507 % 4294967296
+pairMix q = (getD q 0 0 * 9 + getD q 1 0 * 2) % 4294967296
 
 -- keys of two words, and n words beside each
 abbrev pub pairsBeside : ℕ → Layout

@@ -33,25 +33,26 @@ fn word_at(words: &[u32], row: usize, k: usize) -> u32
     words[ROW * row + k]
 }
 
-// How many buckets there are: the lent cells, and no more than a mix of 32 bits can tell apart.
+// How many buckets there are: the lent cells, and no more than a word can count.
 fn buckets(cells: usize) -> usize
-    ensures { λ r. ⌜ r ≡ min cells 4294967296 ⌝ }
+    ensures { λ r. ⌜ r ≡ min cells 4294967295 ⌝ }
 {
-    if cells < 4294967296 {
+    if cells < 4294967295 {
         return cells;
     }
-    4294967296
+    4294967295
 }
 
-// The bucket of a key: a fixed mix of both words, scaled to the lent cells, which takes no division.
+// The bucket of a key. Meshes ask for pairs of near numbers one after the other, so near pairs have near buckets, which a cache still has; nothing is
+// lost where many share one, since a tree stands behind it. It takes no division.
 fn bucket(cells: usize, a: u32, b: u32) -> usize
     requires { ⌜ 0 < cells ⌝ }
     ensures { λ r. ⌜ InBucket pairs cells (a ∷ b ∷ []) r ⌝ }
 {
-    let mixed = (a as u64 * 2654435761 + b as u64) % 4294967296;
-    let spread = mixed * 2246822507 % 4294967296;
-    let range = buckets(cells) as u64;
-    (spread * range / 4294967296) as usize
+    let range = buckets(cells);
+    let mixed = (a as u64 * 9 + b as u64 * 2) % 4294967296;
+    let turned = (mixed << u32::leading_zeros(range as u32)) % 4294967296;
+    (turned * range as u64 / 4294967296) as usize
 }
 
 // Whether an entry's key is [a,b]: [b,a] is another.

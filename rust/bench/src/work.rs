@@ -1,7 +1,7 @@
 //! What is measured: each work on both sides, from the same mesh.
 use crate::{
     block::{block, sheet},
-    crafted::{anywhere, deep_in_one_bucket, in_one_bucket, verts},
+    crafted::{anywhere, deep_in_one_bucket, in_one_bucket, in_one_chain, verts},
     geometry::geometry,
 };
 use aljumeste::geom::{ElementData, Geometry};
@@ -17,10 +17,11 @@ use std::{
 
 /// Each work with its sizes, from some hundred entries to more than a million: cubes along each side of a block, squares along each side of
 /// a sheet, or lines.
-pub const WORKS: [(&str, &[u32]); 10] = [
+pub const WORKS: [(&str, &[u32]); 11] = [
     ("refine simplices", &[1, 4, 8, 12]),
     ("refine cubes", &[1, 4, 8, 19]),
     ("lines anywhere", &LINES),
+    ("lines in one chain", &LINES),
     ("lines in one bucket", &LINES),
     ("lines deep in one bucket", &LINES),
     ("triangulate", &[3, 8, 24, 54]),
@@ -70,6 +71,7 @@ impl Work {
             "refine simplices" => refine_simplices(block(Kind::Simplices, size), 2),
             "refine cubes" => refine_cubes(block(Kind::Cubes, size), 2),
             "lines anywhere" => refine_simplices(anywhere(size), 1),
+            "lines in one chain" => refine_simplices(in_one_chain(size), 1),
             "lines in one bucket" => refine_simplices(in_one_bucket(size), 1),
             "lines deep in one bucket" => {
                 refine_simplices(deep_in_one_bucket(size, verts(size)), 1)
