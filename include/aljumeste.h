@@ -20,12 +20,13 @@
  *
  * A parity is 0, even, or 1, odd. Corner c of a square or cube is at the far end of its axis i where bit i of c is set.
  *
- * Lists sit on two benches, the second's names beginning with other_. A mesh is handed in on the first. What is left stands on the
- * first bench after an even number of passes, on the second after an odd one (aljumeste_left says where). Refining is also lent:
+ * Lists sit on two benches, the second's names beginning with other_, and each has as many words on both. A mesh is handed in on the
+ * first. What is left stands on the first bench after an even number of passes, on the second after an odd one (aljumeste_left says
+ * where). Refining is also lent:
  *
  *   book        6   a cell for each midpoint that is made (ALJUMESTE_BOOK_WORDS)
- *   sums        4   as many cells as the vertices have
- *   tallies     2   as many cells as the vertices have
+ *   sums        4   as many cells as the vertices have, no more and no fewer
+ *   tallies     2   likewise
  *
  * Nothing in them need be set. Once a refinement has begun, they, the other bench and cells past a list's end are free.
  */
@@ -76,13 +77,15 @@ enum {
     ALJUMESTE_VERTEX = 7,        /* a vertex number is not below the vertex count */
     ALJUMESTE_EMPTY_CURVE = 8,   /* a curve is without vertices */
     ALJUMESTE_LISTS = 9,         /* a list counts more entries than its lent cells, the curves' vertex numbers don't add up to the curve
-                                    vertices, the two benches of a list are unequal, or sums or tallies are not as the vertices */
+                                    vertices, a list's lengths on the two benches are unequal, in words, whatever the kind, or sums or
+                                    tallies have not as many cells as the vertices */
     ALJUMESTE_FULL = 10          /* some list or the book would exceed its lent cells or ALJUMESTE_LIMIT */
 };
 
 /* Refines in `depth` passes, each of which smooths; smooth_time 1 lets smoothing move w too, 0 does not. `sizes` are those of the mesh
  * handed in. `answer` becomes the number of whole passes, then the seven sizes of the mesh left; after a refusal by 5 to 9, and by 10
- * before the first pass, 0 passes and the sizes stated. */
+ * before the first pass, 0 passes and the sizes stated. Beside a curve's last vertex a pass writes 0; where none was made, the first bench is
+ * as it was. */
 uint8_t aljumeste_subdivide_cubes(
     float *positions, size_t positions_words, uint32_t *marks, size_t marks_words,
     uint32_t *points, size_t points_words, uint32_t *lines, size_t lines_words,

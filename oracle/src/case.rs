@@ -1,6 +1,9 @@
 //! What a caller hands to an entry: a mesh on one bench, and what is wrong with it; and one call of a refinement, with all that is lent for
 //! it.
-use crate::desk::{slices_mut, Desk, SLICES};
+use crate::{
+    desk::{slices_mut, Desk, SLICES},
+    KINDS,
+};
 use reference::{
     memory::{Bench, Handed, BOOK_WORDS},
     mesh::{Kind, Mesh, Sizes},
@@ -24,6 +27,35 @@ pub fn words_for(kind: Kind, cells: &Sizes) -> [usize; 8] {
 /// The list that a slice belongs to: a vertex has two slices.
 pub fn list_of(slice: usize) -> usize {
     slice.saturating_sub(1)
+}
+
+/// How benches are unequal that lend as many cells of each list of a kind: by another number of cells in one of the vertices' two slices;
+/// by words that are a cell of the other kind; or by words that are no cell of either.
+pub const UNEQUAL: [&str; 3] = [
+    "as many vertices on unequal benches",
+    "unequal benches by the other kind's cells alone",
+    "unequal benches by no cell",
+];
+
+/// Which of them, if any.
+pub fn unequal(kind: Kind, first: [usize; 8], second: [usize; 8]) -> Option<&'static str> {
+    let cells = |kind: Kind, words: [usize; 8]| {
+        let rows = row_words(kind);
+        [0, 1, 2, 3, 4, 5, 6, 7].map(|slice| words[slice] / rows[slice])
+    };
+    let lent = |words| {
+        let [pos, marks, lists @ ..] = cells(kind, words);
+        (pos.min(marks), lists)
+    };
+    if first == second || lent(first) != lent(second) {
+        return None;
+    }
+    let differ = |kind| cells(kind, first) != cells(kind, second);
+    Some(match (differ(kind), KINDS.into_iter().any(differ)) {
+        (true, _) => UNEQUAL[0],
+        (_, true) => UNEQUAL[1],
+        _ => UNEQUAL[2],
+    })
 }
 
 /// A word of the bench that is not the mesh's own.

@@ -26,13 +26,6 @@ pub const DAMAGES: [&str; 17] = [
     "a count below the entries",
 ];
 
-/// Those of smooth_time and of a mesh's own words, but for what is no number.
-pub const WORDS: [&str; 8] = {
-    let [_, _, _, _, _, time, flags, parity, step, beyond, infinite, _, number, empty, ..] =
-        DAMAGES;
-    [time, flags, parity, step, beyond, infinite, number, empty]
-};
-
 /// The number of a curve without vertices among them.
 pub const EMPTY_CURVE: usize = 13;
 
@@ -104,12 +97,13 @@ fn beyond_cells(rng: &mut Rng, given: &mut Given) {
     *count(&mut given.counts, list_of(slice)) = cells + 1;
 }
 
-/// One cell more or less, or none.
+/// One cell more or less, none, or one word more.
 pub fn other_length(rng: &mut Rng, words: &mut usize, row: usize) {
-    *words = match rng.below(3) {
+    *words = match rng.below(4) {
         0 => *words + row,
         1 => words.saturating_sub(row),
-        _ => 0,
+        2 => 0,
+        _ => *words + 1,
     };
 }
 

@@ -131,7 +131,7 @@ impl Call {
     }
 
     /// The answer that is due, with the lists afterwards. After a refusal they are as they were, and the sizes are those stated.
-    fn due(&self, bench: &Bench, lists: &[Vec<u32>]) -> (Answered, Vec<Vec<u32>>) {
+    pub fn due(&self, bench: &Bench, lists: &[Vec<u32>]) -> (Answered, Vec<Vec<u32>>) {
         let (entry, counts) = (self.entry, self.given.counts);
         let answered = |number: u8, sizes: Sizes| Answered {
             number,

@@ -12,6 +12,31 @@ pub struct Desk {
     pub tallies: Vec<u32>,
 }
 
+impl Desk {
+    /// Its slices, in the order in which a refinement takes them.
+    pub fn slices(&self) -> [&Vec<u32>; 19] {
+        let (first, second) = (slices(&self.first), slices(&self.second));
+        let others = [&self.book, &self.sums, &self.tallies];
+        std::array::from_fn(|i| match i {
+            0..8 => first[i],
+            8..16 => second[i - 8],
+            _ => others[i - 16],
+        })
+    }
+
+    #[cfg(test)]
+    pub fn slices_mut(&mut self) -> Vec<&mut Vec<u32>> {
+        let benches = [slices_mut(&mut self.first), slices_mut(&mut self.second)];
+        let others = [&mut self.book, &mut self.sums, &mut self.tallies];
+        benches.into_iter().flatten().chain(others).collect()
+    }
+
+    /// How many words each of them has.
+    pub fn words(&self) -> [usize; 19] {
+        self.slices().map(Vec::len)
+    }
+}
+
 /// The answer's words: the refusal's number, 0 when finished; the passes, or the kind that was read, then the sizes.
 #[derive(Copy, Clone, Debug, PartialEq, Eq)]
 pub struct Told {

@@ -162,7 +162,8 @@ fn lending(rng: &mut Rng, needs: &[Cells], shape: &Shape) -> (String, Cells) {
     (name, cells)
 }
 
-pub fn sizes(cells: &Cells) -> Sizes {
+/// The sizes of the seven lists, which come first.
+pub fn sizes(cells: &[usize]) -> Sizes {
     Sizes {
         verts: cells[0],
         points: cells[1],
@@ -183,10 +184,12 @@ pub fn last_steps(rng: &mut Rng, given: &mut Given) {
     }
 }
 
-/// Words that count for nothing: beside a curve's last vertex, and too few for a row.
+/// Words that count for nothing: beside a curve's last vertex; too few for a row, as many on both benches; and more cells in one of the
+/// vertices' two slices, of which the smaller number counts. Now and then they count: benches are unequal, or sums more than the vertices.
 fn free_words(rng: &mut Rng, case: &mut Case) {
     last_steps(rng, &mut case.given);
-    if !rng.once_in(3) {
+    let chance = rng.below(24);
+    if chance % 3 > 0 {
         return;
     }
     let rows = row_words(case.given.mesh.kind);
@@ -197,11 +200,15 @@ fn free_words(rng: &mut Rng, case: &mut Case) {
     case.book += rng.below(BOOK_WORDS);
     case.sums += rng.below(4);
     case.tallies += rng.below(2);
-    // Of a list in two slices the smaller number of cells counts.
-    match rng.below(3) {
-        0 => case.given.words[0] += 4 * rng.below(3),
-        1 => case.second[1] += 3 * rng.below(3),
-        _ => case.sums += 4 * rng.below(3),
+    let (list, more) = (rng.below(3), rng.below(3));
+    match list {
+        0 => case.given.words[0] += 4 * more,
+        1 => case.given.words[1] += 3 * more,
+        _ if chance < 9 => case.sums += 4 * more,
+        _ => {}
+    }
+    if chance > 0 {
+        case.second = case.given.words;
     }
 }
 

@@ -32,6 +32,19 @@ pub fn timed_subdivide(
     depth: u8,
     smooth_time: u8,
 ) -> (Told, Duration) {
+    let words = desk.words();
+    subdivide_within(kind, desk, &words, sizes, depth, smooth_time)
+}
+
+/// Where only so many words of each slice are lent.
+pub fn subdivide_within(
+    kind: Kind,
+    desk: &mut Desk,
+    words: &[usize; 19],
+    sizes: &Sizes,
+    depth: u8,
+    smooth_time: u8,
+) -> (Told, Duration) {
     let refine = match kind {
         Kind::Simplices => raw::subdivide_simplices,
         Kind::Cubes => raw::subdivide_cubes,
@@ -51,11 +64,11 @@ pub fn timed_subdivide(
     );
     let ((number, answer), took) = timed(|| {
         let desk = raw::Desk {
-            first: lent(first, &mut at),
-            second: lent(second, &mut other_at),
-            book,
-            sums: &mut totals,
-            tallies,
+            first: lent(first, &mut at, &words[..8]),
+            second: lent(second, &mut other_at, &words[8..16]),
+            book: &mut book[..words[16]],
+            sums: &mut totals[..words[17]],
+            tallies: &mut tallies[..words[18]],
         };
         refine(desk, &sizes, depth, smooth_time)
     });
@@ -105,31 +118,50 @@ pub fn timed_derive(
     sizes: &Sizes,
     lists: &mut [Vec<u32>],
 ) -> (Answered, Duration) {
+    let mut words = slices(bench).map(Vec::len).to_vec();
+    words.extend(lists.iter().map(Vec::len));
+    derive_within(entry, bench, &words, sizes, lists)
+}
+
+/// Where only so many words of each slice are lent, those of the mesh first.
+pub fn derive_within(
+    entry: Entry,
+    bench: &mut Bench,
+    words: &[usize],
+    sizes: &Sizes,
+    lists: &mut [Vec<u32>],
+) -> (Answered, Duration) {
     let sizes = sizes.list();
     let mut at = floats(&mut bench.pos);
-    let mesh: raw::Mesh = lent(bench, &mut at).into();
+    let (own, words) = words.split_at(8);
+    let mesh: raw::Mesh = lent(bench, &mut at, own).into();
     let answered = match (entry, lists) {
         (Entry::Triangulation, [triangles, tetrahedra]) => {
+            let (triangles, tetrahedra) = (&mut triangles[..words[0]], &mut tetrahedra[..words[1]]);
             let ((number, sizes), took) =
                 timed(|| raw::triangulate(mesh, &sizes, triangles, tetrahedra));
             let sizes = Some(sizes);
             (Answered { number, sizes }, took)
         }
-        (Entry::Normals3, [normals]) => {
-            shade(normals, |n| raw::compute_normals_3d(mesh, &sizes, n))
-        }
-        (Entry::Normals4, [normals]) => {
-            shade(normals, |n| raw::compute_normals_4d(mesh, &sizes, n))
-        }
+        (Entry::Normals3, [normals]) => shade(normals, words[0], |n| {
+            raw::compute_normals_3d(mesh, &sizes, n)
+        }),
+        (Entry::Normals4, [normals]) => shade(normals, words[0], |n| {
+            raw::compute_normals_4d(mesh, &sizes, n)
+        }),
         (entry, lists) => panic!("{entry:?} writes no {} lists", lists.len()),
     };
     bench.pos = bits(at);
     answered
 }
 
-fn shade(normals: &mut Vec<u32>, call: impl FnOnce(&mut [f32]) -> u8) -> (Answered, Duration) {
+fn shade(
+    normals: &mut Vec<u32>,
+    words: usize,
+    call: impl FnOnce(&mut [f32]) -> u8,
+) -> (Answered, Duration) {
     let mut lent = floats(normals);
-    let (number, took) = timed(|| call(&mut lent));
+    let (number, took) = timed(|| call(&mut lent[..words]));
     *normals = bits(lent);
     let sizes = None;
     (Answered { number, sizes }, took)
@@ -138,9 +170,11 @@ fn shade(normals: &mut Vec<u32>, call: impl FnOnce(&mut [f32]) -> u8) -> (Answer
 /// Reads a file onto the first bench. File and second bench are borrowed as if they might change, so that a comparison sees that they
 /// don't.
 pub fn read(file: &mut [u8], first: &mut Bench, second: &mut Bench) -> Told {
+    let words = slices(first).map(Vec::len);
+    let others = slices(second).map(Vec::len);
     let (mut at, mut other_at) = (floats(&mut first.pos), floats(&mut second.pos));
-    let other = lent(second, &mut other_at).into();
-    let (number, answer) = raw::read(file, lent(first, &mut at), other);
+    let other = lent(second, &mut other_at, &others).into();
+    let (number, answer) = raw::read(file, lent(first, &mut at, &words), other);
     (first.pos, second.pos) = (bits(at), bits(other_at));
     Told { number, answer }
 }
@@ -151,17 +185,17 @@ fn timed<T>(call: impl FnOnce() -> T) -> (T, Duration) {
     (told, began.elapsed())
 }
 
-/// A bench, with its positions, which are elsewhere for the call.
-fn lent<'a>(bench: &'a mut Bench, positions: &'a mut [f32]) -> raw::Bench<'a> {
+/// So many words of each slice of a bench, with its positions, which are elsewhere for the call.
+fn lent<'a>(bench: &'a mut Bench, positions: &'a mut [f32], words: &[usize]) -> raw::Bench<'a> {
     raw::Bench {
-        positions,
-        marks: &mut bench.marks,
-        points: &mut bench.points,
-        lines: &mut bench.lines,
-        areas: &mut bench.areas,
-        volumes: &mut bench.volumes,
-        curves: &mut bench.curves,
-        steps: &mut bench.curve_verts,
+        positions: &mut positions[..words[0]],
+        marks: &mut bench.marks[..words[1]],
+        points: &mut bench.points[..words[2]],
+        lines: &mut bench.lines[..words[3]],
+        areas: &mut bench.areas[..words[4]],
+        volumes: &mut bench.volumes[..words[5]],
+        curves: &mut bench.curves[..words[6]],
+        steps: &mut bench.curve_verts[..words[7]],
     }
 }
 

@@ -5,9 +5,9 @@
 //! vectors of three and of four components. `KIND SEED COUNT` refines so many random meshes of a kind, cubes or simplices; `ENTRY SEED
 //! COUNT` cuts or shades so many, with triangulation, normals3 or normals4. `geometry SEED COUNT` does all of it through the crate's
 //! geometries, for so many of each kind. `file SEED COUNT` reads so many files of both kinds, and `sheet SEED COUNT` gives so many inputs
-//! to the program of that name. `sample KIND` prints cases with the reference's answers, for
-//! other programs. `bench` measures speed. `ledger SEED COUNT` refines so many meshes of each
-//! kind, and holds the ledgers of what is left against document 01's section 5.
+//! to the program of that name. `stored files` writes the files that the program `replay` reads, and `stored answers` what it must print.
+//! `bench` measures speed. `ledger SEED COUNT` refines so many meshes of each kind, and holds the ledgers of what is left against document
+//! 01's section 5.
 #![forbid(unsafe_code)]
 
 mod bench;
@@ -31,15 +31,21 @@ mod random;
 mod reading;
 mod refinement;
 mod root;
-mod sample;
 mod sheet;
 mod shrink;
 mod spoil;
+mod stored;
+#[cfg(test)]
+mod worked;
 mod written;
 
 use derived::{Entry, ENTRIES};
 use reference::mesh::Kind;
-use std::{env, process::ExitCode};
+use std::{
+    env,
+    io::{self, Write},
+    process::ExitCode,
+};
 
 /// What a comparison found: how many inputs there were, on how many the two sides differ, and the first of those, in words.
 #[derive(Debug, Default, PartialEq)]
@@ -90,10 +96,8 @@ fn main() -> ExitCode {
             ("normals of 3 components", normal::spread3()),
             ("normals of 4 components", normal::spread4()),
         ]),
-        ["sample", kind] => kind_named(kind).map(|kind| {
-            print!("{}", sample::sample(kind));
-            true
-        }),
+        ["stored", "files"] => written(&stored::stored().files),
+        ["stored", "answers"] => written(stored::stored().answers.as_bytes()),
         ["bench"] => {
             KINDS.into_iter().for_each(bench::tables);
             bench::lines();
@@ -121,11 +125,16 @@ fn main() -> ExitCode {
         Some(true) => ExitCode::SUCCESS,
         Some(false) => ExitCode::from(1),
         None => {
-            eprintln!("usage: cargo run --release -- all | spread | WHAT SEED COUNT | sample KIND | bench [ENTRY | lines] | bench one WHAT SIZE SIDE | ledger [SEED COUNT] | geometry SEED COUNT");
+            eprintln!("usage: cargo run --release -- all | spread | WHAT SEED COUNT | stored files | stored answers | bench [ENTRY | lines] | bench one WHAT SIZE SIDE | ledger [SEED COUNT] | geometry SEED COUNT");
             eprintln!("KIND is cubes or simplices, ENTRY triangulation, normals3 or normals4, WHAT either, file or sheet, SIDE library, original or none");
             ExitCode::from(2)
         }
     }
+}
+
+/// Writes bytes as they are: whether that went well.
+fn written(bytes: &[u8]) -> Option<bool> {
+    Some(io::stdout().write_all(bytes).is_ok())
 }
 
 /// Prints what each comparison found: whether all agree.

@@ -58,9 +58,9 @@ mod tests {
     use super::*;
     use crate::sheet::draw;
     use reference::{
-        mesh::{Element, Kind, Mesh, Vertex},
+        mesh::{Element, Kind, Mesh, Sizes, Vertex},
         random::Rng,
-        sheet::{self, Sheet, MOST_BYTES},
+        sheet::{self, Sheet, CELLS, MOST_BYTES},
     };
     use std::time::{Duration, Instant};
 
@@ -127,7 +127,7 @@ mod tests {
     fn input_in_pieces() {
         let mut rng = Rng::new(3);
         for _ in 0..5 {
-            let input = draw(&mut rng).0.case.bytes();
+            let input = draw(&mut rng, |_| Sizes::all(CELLS)).0.case.bytes();
             let pieces: Vec<usize> = (0..input.len()).map(|_| 1 + rng.below(40)).collect();
             let feed = |pipe: &mut ChildStdin, _: &AtomicBool| {
                 let mut rest = &input[..];

@@ -2,7 +2,7 @@
 //! sizes; every word of the first bench, also past what is written; and every word of the second and every byte, which stay. After a
 //! refusal all of them do.
 use crate::{
-    case::{any_bench, row_words, words_for},
+    case::{any_bench, row_words, unequal, words_for},
     damage::other_length,
     desk::Told,
     draw::{damages, sizes, Cells, Drawn, LISTS},
@@ -14,7 +14,7 @@ use crate::{
     KINDS,
 };
 use reference::{
-    file::decode,
+    file::decode_onto,
     memory::Bench,
     mesh::{Kind, Mesh, Sizes},
     random::{self, Bounds, Rng},
@@ -60,23 +60,10 @@ impl Reading {
     }
 }
 
-/// "For a file 9 comes first": a list's two benches are unequal. Its kind isn't known then, so they are to be equal for both.
-fn unequal(first: &Bench, second: &Bench) -> bool {
-    KINDS.into_iter().any(|k| first.cells(k) != second.cells(k))
-}
-
 /// The answer that is due, with the first bench afterwards.
 fn due(file: &[u8], first: &Bench, second: &Bench) -> (Told, Bench) {
-    let kind = match file.get(1) {
-        Some(1) => Kind::Simplices,
-        _ => Kind::Cubes,
-    };
-    let read = match unequal(first, second) {
-        true => Err(9),
-        false => decode(file, &first.cells(kind)),
-    };
     let mut after = first.clone();
-    let (number, answer) = match read {
+    let (number, answer) = match decode_onto(file, first, second) {
         Err(number) => (number, [0; 8]),
         Ok(mesh) => {
             after.put(&mesh);
@@ -162,9 +149,8 @@ pub fn library(seed: u64, cases: u64) -> Compared {
 
 /// Another number than the one that is due.
 fn wrong(reading: &Reading, due: Option<Due>, number: u8) -> Option<String> {
-    let (first, second) = reading.benches();
     let expected = match due {
-        _ if unequal(&first, &second) => Some(9),
+        _ if reading.first != reading.second => Some(9),
         Some(due) => due.number,
         None => Some(0),
     };
@@ -241,6 +227,7 @@ fn free_words(rng: &mut Rng, kind: Kind, reading: &mut Reading) {
         let slice = rng.below(2);
         let cells = rng.below(3) * row_words(kind)[slice];
         reading.first[slice] += cells;
+        reading.second[slice] += if equal { cells } else { 0 };
     }
 }
 
@@ -248,9 +235,8 @@ fn count(found: &mut Compared, drawn: &Drawn<Reading>, due: Option<Due>, number:
     found.met(format!("answer {number}"), 1);
     found.drawn(drawn, number);
     let reading = &drawn.case;
-    let (kind, (first, second)) = (reading.written.mesh.kind, reading.benches());
-    if number == 9 && first.cells(kind) == second.cells(kind) {
-        found.met("benches unequal for the other kind alone", 1);
+    if let Some(way) = unequal(reading.written.mesh.kind, reading.first, reading.second) {
+        found.met(format!("{way}: {number}"), 1);
     }
     match due {
         Some(due) if due.number == Some(number) => {
@@ -272,12 +258,16 @@ const LARGEST: &str = "coordinates of 1,024 or -1,024 that are read";
 mod tests {
     use super::*;
     use crate::{
+        case::UNEQUAL,
         desk::{flip, slices_mut},
         geometries::opened,
         refinement::tests::piled,
         written::{Edit, Field},
     };
-    use reference::{file::encode, mesh::LIMIT};
+    use reference::{
+        file::{decode, encode},
+        mesh::LIMIT,
+    };
 
     const CASES: u64 = 20_000;
 
@@ -289,7 +279,7 @@ mod tests {
         classes.push("more than is needed: 0".into());
         classes.push("what is needed: 0".into());
         classes.extend(LISTS[..7].iter().map(|l| format!("one short of {l}: 10")));
-        classes.push("benches unequal for the other kind alone".into());
+        classes.extend(UNEQUAL.map(|way| format!("{way}: 9")));
         classes.push(LARGEST.into());
         let counts = (0..6).map(Field::Count);
         let elements = (2..5).flat_map(|list| [Field::Corner(list), Field::Parity(list)]);

@@ -2,7 +2,7 @@
 //! word of every list that is left, positions bit for bit; and, after a refusal at the door, every lent word. Only what document 01
 //! calls free goes uncompared, and the word beside a curve's last vertex, which belongs to no step.
 use crate::{
-    case::Case,
+    case::{unequal, Case},
     desk::{slices, Desk, Told, SLICES},
     draw::{draw, Drawn},
     exports,
@@ -99,7 +99,18 @@ fn count(found: &mut Compared, drawn: &Drawn<Case>, answer: &Answer) {
     found.met(format!("answer {number} after {passes} passes"), 1);
     found.met(format!("depth {}", drawn.case.depth), 1);
     found.drawn(drawn, number);
+    let case = &drawn.case;
+    if let Some(way) = unequal(case.given.mesh.kind, case.given.words, case.second) {
+        found.met(format!("{way}: {number}"), 1);
+    }
+    let verts = (case.given.words[0] / 4).min(case.given.words[1] / 3);
+    let (sums, tallies) = (case.sums / 4, case.tallies / 2);
+    if sums != tallies && sums.min(tallies) == verts {
+        found.met(format!("{ONE_OF_TWO}: {number}"), 1);
+    }
 }
+
+const ONE_OF_TWO: &str = "more sums than tallies or fewer, the fewer as many as the vertices";
 
 /// The smallest case that shows what a case shows, and why it does, in words.
 pub fn described<T: Shrink + Display>(case: T, why: impl Fn(&T) -> Option<String>) -> String {
@@ -212,6 +223,7 @@ fn same_lists(left: &Bench, mesh: &Mesh) -> Result<(), String> {
 pub mod tests {
     use super::*;
     use crate::{
+        case::UNEQUAL,
         crafted,
         damage::DAMAGES,
         derived::{self, Call, ENTRIES},
@@ -253,6 +265,8 @@ pub mod tests {
             let number = if list == 1 || list == 5 { 9 } else { 10 };
             classes.push(format!("one short of {name}: {number}"));
         }
+        classes.extend(UNEQUAL.map(|way| format!("{way}: 9")));
+        classes.push(format!("{ONE_OF_TWO}: 9"));
         classes
     }
 
@@ -344,6 +358,58 @@ pub mod tests {
         }
     }
 
+    /// One vertex, lent a cell of its own: a list's two slices of equal lengths are accepted, and others are refused by 9, whatever the kind, by a
+    /// refinement as by reading; and so are sums or tallies of another number of cells.
+    #[test]
+    fn benches_are_held_by_their_lengths() {
+        let one = Sizes {
+            verts: 1,
+            ..Sizes::default()
+        };
+        for kind in KINDS {
+            let case = Case::new(piled(kind, &one), &one, 0, 0, 0);
+            let refined = |case: &Case| {
+                let answer = differs(case, &exports::subdivide).unwrap();
+                number(answer.ended)
+            };
+            // A slice, and its words on either bench. 20 and 24 words of areas are 4 cells of cubes.
+            for (slice, first, second, expected) in [
+                (4, 20, 24, 9),
+                (4, 24, 24, 0),
+                (0, 8, 4, 9),
+                (0, 4, 8, 9),
+                (0, 8, 8, 0),
+                (1, 3, 6, 9),
+                (1, 4, 4, 0),
+            ] {
+                let mut case = case.clone();
+                case.given.words[slice] = first;
+                case.second[slice] = second;
+                let mut file = Reading::new(case.given.mesh.clone(), &one);
+                (file.first, file.second) = (case.given.words, case.second);
+                let read = reading::differs(&file, &exports::read);
+                let name = SLICES[slice];
+                assert_eq!(refined(&case), expected, "{name}, {first} and {second}");
+                assert_eq!(read, Ok(expected), "file, {name}, {first} and {second}");
+            }
+            for (sums, tallies, expected) in [
+                (4, 2, 0),
+                (7, 3, 0),
+                (8, 2, 9),
+                (4, 4, 9),
+                (8, 4, 9),
+                (3, 2, 9),
+            ] {
+                let case = Case {
+                    sums,
+                    tallies,
+                    ..case.clone()
+                };
+                assert_eq!(refined(&case), expected, "{sums} and {tallies}");
+            }
+        }
+    }
+
     /// A line or a curve of one place, lent more than the limit: the limit stops it, as document 01 counts.
     #[test]
     fn the_limit_stops_what_the_cells_would_hold() {
@@ -379,11 +445,12 @@ pub mod tests {
         }
     }
 
-    /// Lines whose pairs crowd one bucket of the book, where its tree is the deepest.
+    /// Lines whose pairs crowd one bucket of the book, where its tree is the deepest, and such as once crowded a chain.
     #[test]
     fn crowded_books_are_refined_as_by_the_reference() {
         for kind in KINDS {
             for mesh in [
+                crafted::in_one_chain(2_000),
                 crafted::in_one_bucket(2_000),
                 crafted::deep_in_one_bucket(2_000, 50_000),
             ] {

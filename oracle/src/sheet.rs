@@ -9,7 +9,7 @@ use crate::{
     KINDS,
 };
 use reference::{
-    mesh::Sizes,
+    mesh::{Kind, Sizes},
     random::{self, Bounds, Rng},
     sheet::{Sheet, CELLS},
 };
@@ -80,7 +80,7 @@ impl Shrink for Input {
 /// is due by the way the input was made.
 pub fn compare(engine: Engine, seed: u64, cases: u64) -> Compared {
     Compared::of(seed, cases, |rng, found| {
-        let (drawn, refusal) = draw(rng);
+        let (drawn, refusal) = draw(rng, |_| Sizes::all(CELLS));
         match differs(&drawn.case, engine) {
             Ok(listing) => match wrong(&drawn.case, refusal, &listing) {
                 None => count(found, &drawn, &listing),
@@ -123,13 +123,14 @@ fn wrong(input: &Input, refusal: Option<u8>, listing: &str) -> Option<String> {
         .then(|| format!("{input}by the way it was made {due:?} is due, and printed is {listing}"))
 }
 
-/// One input: one in three has something wrong. With it comes the refusal that is due for that, where it is known.
-pub fn draw(rng: &mut Rng) -> (Drawn<Input>, Option<u8>) {
+/// One input, where so many cells of a kind are lent: one in three has something wrong. With it comes the refusal that is due for that, where
+/// it is known.
+pub fn draw(rng: &mut Rng, cells: impl Fn(Kind) -> Sizes) -> (Drawn<Input>, Option<u8>) {
     let mut input = accepted(rng);
+    let cells = cells(input.written.mesh.kind);
     let mut dues: Vec<Due> = vec![];
     let damages = damages(rng, 3, &THINGS, |rng, which| {
         if which < SPOILS.len() {
-            let cells = Sizes::all(CELLS);
             dues.push(spoil(rng, &mut input.written, &cells, which)?);
         } else if which == SPOILS.len() {
             input.most = rng.below(2);
@@ -145,7 +146,7 @@ pub fn draw(rng: &mut Rng) -> (Drawn<Input>, Option<u8>) {
     };
     let drawn = Drawn {
         case: input,
-        lending: "1,024 cells".into(),
+        lending: "enough to read it".into(),
         damages,
     };
     (drawn, refusal)
@@ -155,9 +156,9 @@ pub fn draw(rng: &mut Rng) -> (Drawn<Input>, Option<u8>) {
 fn accepted(rng: &mut Rng) -> Input {
     let (depth, verts, elements) = match rng.below(9) {
         0 => (0, 20, 9),
-        1 | 2 => (1, 12, 6),
+        1 | 2 => (1, 12, 9),
         3 | 4 => (2, 9, 3),
-        5 => (3, 6, 2),
+        5 => (3, 6, 3),
         6 => (2 + rng.below(2) as u8, 20, 40),
         _ => (rng.pick(&[4, 6, 9, 10, 255]), 3, 1),
     };
@@ -200,7 +201,7 @@ fn count(found: &mut Compared, drawn: &Drawn<Input>, listing: &str) {
 mod tests {
     use super::*;
     use reference::{
-        mesh::{Curve, Element, Kind, Mesh, Vertex},
+        mesh::{Curve, Element, Mesh, Vertex},
         sheet,
     };
 

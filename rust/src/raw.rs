@@ -62,7 +62,7 @@ pub struct Bench<'a> {
     pub volumes: &'a mut [u32],
     /// Tag, vertex count.
     pub curves: &'a mut [u32],
-    /// Of a vertex of a curve: its number, and the parity of the step to the next. The last one's is never read.
+    /// Of a vertex of a curve: its number, and the parity of the step to the next. The last one's is never read; a pass and a file write 0.
     pub steps: &'a mut [u32],
 }
 
@@ -108,13 +108,13 @@ impl<'a> From<Bench<'a>> for Mesh<'a> {
 pub struct Desk<'a> {
     /// Where the mesh is handed in, and left after an even number of passes.
     pub first: Bench<'a>,
-    /// Where it is left after an odd number. Its lists have as many cells as the first's.
+    /// Where it is left after an odd number. Each of its lists is as long as the first's.
     pub second: Bench<'a>,
     /// The midpoint book, [`BOOK_WORDS`] a midpoint.
     pub book: &'a mut [u32],
     /// Smoothing's sums, four numbers a vertex: as many cells as the vertices have.
     pub sums: &'a mut [f32],
-    /// Smoothing's counts and touches, two words a vertex.
+    /// Smoothing's counts and touches, two words a vertex: as many cells too.
     pub tallies: &'a mut [u32],
 }
 
@@ -477,8 +477,8 @@ normals! {
     compute_normals_4d, aljumeste_compute_normals_4d
 }
 
-/// Reads a file onto the first bench; of the second the lengths alone count. Answers 0 or the refusal's number; and the kind, 0 cubes or 1
-/// simplices, then the sizes, which are 0 after a refusal.
+/// Reads a file onto the first bench; of the second the lengths alone count, and each is to be the first's. Answers 0 or the refusal's
+/// number; and the kind, 0 cubes or 1 simplices, then the sizes, which are 0 after a refusal.
 pub fn read(file: &[u8], first: Bench, second: Mesh) -> Told<8> {
     // Words that no answer has: after a refusal every word is 0, and one that is not written has to show.
     let mut answer = [usize::MAX; 8];

@@ -10,8 +10,9 @@ use Rattle.geom.specs.declared.answer.Sizes.{Sizes}
 use Rattle.geom.specs.declared.answer.Reading.{Reading}
 use Rattle.geom.specs.Answers.{refused, meshOfKind, noMesh, judgementOf, Opening, openingOf}
 use Rattle.geom.specs.Book.{Kind, cubes, simplices}
-use Rattle.geom.specs.File.{Read, read, stop, Reader, andThen, judged, byte, word, several, counted, coordinate, vertex, number, parity, element, line, curveCount, curve, curves, lists, kindField, Figure, end, figure, benchesMatch, Loaded, loadedBy, loaded}
+use Rattle.geom.specs.File.{Read, read, stop, Reader, andThen, judged, byte, word, several, counted, coordinate, vertex, number, parity, element, line, curveCount, curve, curves, lists, kindField, Figure, end, figure, Loaded, loadedBy, loaded}
 use Rattle.geom.specs.Memory.{Bench, cells}
+use Rattle.geom.specs.Refusals.{benchesEqual}
 use Rattle.figure.specs.Entry.{outcome}
 use Rattle.told.specs.Told.{Numbered, Worded, Says, Reads}
 use Rattle.aljumeste.proofs.Numbers.{either}
@@ -164,8 +165,8 @@ reading-worded r after first second bytes q =
     subst
     (λ (x : Loaded). Worded (x .opening .judgement))
     (sym q)
-    (loaded-by first (cond (benchesMatch first second) (figure lent bytes) (stop 9))
-    (either (λ (x : Read Figure). Counted x) (benchesMatch first second) {x = figure lent bytes} {y = stop 9} (figure-counts lent bytes) refl))
+    (loaded-by first (cond (benchesEqual first second) (figure lent bytes) (stop 9))
+    (either (λ (x : Read Figure). Counted x) (benchesEqual first second) {x = figure lent bytes} {y = stop 9} (figure-counts lent bytes) refl))
 
 pub exported-reading : (n : ℕ) (words : List ℕ) (o : Opening) (after first second : Bench) (bytes : List ℕ) → Says n words o
     → outcome o after ≡ loaded first second bytes

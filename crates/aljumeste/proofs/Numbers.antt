@@ -17,7 +17,7 @@ use Rattle.geom.specs.Normals.{Shaded, shadedBy, shadingVerdict, shading3, shad
 use Rattle.geom.specs.Refinement.{Lent, State, Run, passOver, fits, runFrom, run, toldBy}
 use Rattle.geom.specs.Refusals.{Desk, handedIn, refinementVerdict, subdividedBy, subdivided, toldAfter}
 use Rattle.geom.specs.Triangulation.{Cuts, Triangulated, triangulationVerdict, triangulatedBy, triangulation}
-use Rattle.geom.proofs.Lists.{All}
+use Rattle.geom.specs.Between.{All}
 use Rattle.subdivision.specs.Entry.{Refines}
 use Rattle.told.specs.Told.{Numbered}
 

@@ -6,20 +6,22 @@ use mathlib.Core.List.{List, [], _∷_, _++_, map, map-append}
 use Prim.Native.Nat.{ℕ, zero, suc, _+_, _<_, _≤_}
 use native.Mathlib.Omega.{arith}
 use native.Mathlib.Numerals.{add-one}
-use lib.Dec.{eqb}
+use lib.Dec.{eqb, leb}
 use lib.ListN.{length, getD, length-append}
-use borrow.Author.Tests.{eq-eqb, ne-eqb, eqb-true, eqb-false}
+use borrow.Author.Tests.{leb-false, le-leb, lt-leb, eq-eqb, ne-eqb, eqb-true, eqb-false}
 use Rattle.index.specs.Cells.{pairs, wordsFrom, keyAt, keysOf}
 use Rattle.index.specs.Answers.{Holds, Lacks, Sought, Free, Entered}
 use Rattle.index.specs.declared.Found as Told
 use Rattle.index.specs.declared.Found.the-variants.{At, Nowhere}
+use Rattle.geom.specs.Answers.{whole, fitted}
 use Rattle.geom.specs.Book.{Kind, cubes, simplices, Pair, pair, Book, Found, found, none, find, seek, vertexOr, bookOr, midpoint}
 use Rattle.geom.specs.Memory.{firstOf}
+use Rattle.geom.proofs.Endings.{stopped-bursts}
 use Rattle.geom.proofs.Rows.{length-firstOf}
 use Rattle.book.specs.declared.Asked.{Asked}
 use Rattle.book.specs.declared.Asked.the-variants.{Vertex, Full}
 use Rattle.book.specs.Cells.{cells, pairAt, pairsOf, keyOf}
-use Rattle.book.specs.Answers.{Still, vacantOf, Ready, Placed, Answered}
+use Rattle.book.specs.Answers.{Still, vacantOf, Ready, Placed, grown, placing, Answered}
 use Rattle.book.proofs.Search.{find-nowhere, find-first}
 
 -- the book on the cells has as many entries as are made
@@ -132,6 +134,27 @@ crowded base room made words q is l =
     subst (λ (f : Found). room < length (bookOr (pairsOf words made) q f)) is
     (omega (arith, length-append (pairsOf words made) (q ∷ []), length-pairs words made))
 
+-- ── the answer ──
+
+module _ {kind : Kind} {base room made : ℕ} {q : Pair} {words after : List ℕ} where
+  -- a midpoint that is placed is the definition's answer
+  pub answers : {v m : ℕ} → Placed kind base room made q words after v m → Answered kind base room made q words after (Vertex v m)
+  answers {v} {m} p =
+      let n : m ≡ length (grown kind base (pairsOf words made) q) = sym (length-pairs after m) ∙ ap length (p .book) in
+      record {
+        answer =
+            (λ i. whole (record { vertex = p .vertex i; made = n i }))
+            ∙ ap (λ (t : Bool). fitted t (placing kind base (pairsOf words made) q)) (sym (le-leb (length (grown kind base (pairsOf words made) q)) room (omega (arith, n, p .ready .within))));
+        placed = p;
+      }
+
+  -- a book that outgrows the room is refused by 10
+  pub refuses : room < length (grown kind base (pairsOf words made) q) → Answered kind base room made q words after Full
+  refuses l = record { answer = ap (λ (t : Bool). fitted t (placing kind base (pairsOf words made) q)) (sym (lt-leb (length (grown kind base (pairsOf words made) q)) room l)); placed = tt }
+
+  pub outgrows : Answered kind base room made q words after Full → room < length (grown kind base (pairsOf words made) q)
+  outgrows a = leb-false _ _ (stopped-bursts (leb (length (grown kind base (pairsOf words made) q)) room) _ (a .answer))
+
 -- ── cubes ──
 
 -- [a,a] gives a itself
@@ -159,16 +182,18 @@ pub answered-apart :
     (base room made a b : ℕ) (words after : List ℕ) (r : Asked) → (a ≡ b → ⊥)
     → Answered simplices base room made (pair a b) words after r → Answered cubes base room made (pair a b) words after r
 unfolding midpoint
-answered-apart base room made a b words after (Vertex v m) ne p =
+answered-apart base room made a b words after (Vertex v m) ne r =
     let book = pairsOf words made in
     let e = seek-apart base a b book ne in
-    record {
+    let p = r .placed in
+    answers
+    (record {
       ready = p .ready;
       vertex = p .vertex ∙ ap (vertexOr (base + length book)) e;
       book = p .book ∙ ap (bookOr book (pair a b)) e;
-    }
-answered-apart base room made a b words after Full ne p =
-    subst (λ (f : Found). room < length (bookOr (pairsOf words made) (pair a b) f)) (seek-apart base a b (pairsOf words made) ne) p
+    })
+answered-apart base room made a b words after Full ne r =
+    refuses (subst (λ (f : Found). room < length (bookOr (pairsOf words made) (pair a b) f)) (seek-apart base a b (pairsOf words made) ne) (outgrows r))
 
 -- ── by the kind ──
 

@@ -4,6 +4,7 @@ use mathlib.Core.Path.{_≡_}
 use mathlib.Core.List.{List}
 use Prim.Native.Nat.{ℕ, _<_}
 use lib.ListN.{length, take}
+use Rattle.geom.specs.Answers.{Ending, whole, stopped, EndsWith}
 use Rattle.geom.specs.Book.{Kind, Book, Made, mids}
 use Rattle.geom.specs.Elements.{pairsOf as edgePairs}
 use Rattle.book.specs.Cells.{pairsOf}
@@ -23,7 +24,11 @@ pub record Middled (corners base room : ℕ) (points : List ℕ) (m : Made ℕ) 
   pub entries : pairsOf book e ≡ m .book
   pub list : after ≡ written points corners (m .made)
 
+-- what `Grown` says: how many entries the book has, or refusal 10
+abbrev pub grownOf : Grown → Ending ℕ
+grownOf (Entries e) = whole e
+grownOf Full = stopped 10
+
 -- the midpoints, or that the book after is longer than the room
 abbrev pub Middle : ℕ → ℕ → ℕ → List ℕ → Made ℕ → List ℕ → List ℕ → Grown → Type 0
-Middle corners base room points m after book (Entries e) = Middled corners base room points m after book e
-Middle corners base room points m after book Full = room < length (m .book)
+Middle corners base room points m after book r = EndsWith (Middled corners base room points m after book) (room < length (m .book)) (grownOf r)

@@ -6,6 +6,7 @@ use mathlib.Core.List.{List, [], _∷_}
 use Prim.Native.Nat.{ℕ, suc, _+_, _*_, _-_, _^_, _<_, _≤_}
 use lib.ListN.{length, getD}
 use Rattle.geom.specs.declared.parity.Parity.{Parity}
+use Rattle.geom.specs.Answers.{EndsWith}
 use Rattle.geom.specs.Book.{Kind, Pair, Book, Made, mids}
 use Rattle.geom.specs.Elements.{Curve}
 use Rattle.geom.specs.Rules.{stepEnds}
@@ -15,10 +16,9 @@ use Rattle.geom.specs.Refusals.{curveLengths}
 use Rattle.book.specs.Cells.{pairsOf}
 use Rattle.book.specs.Answers.{Ready}
 use Rattle.division.specs.declared.Written.{Written}
-use Rattle.division.specs.declared.Written.the-variants.{Rows, Full}
 use Rattle.division.specs.declared.elements.Grown.{Grown}
-use Rattle.division.specs.declared.elements.Grown.the-variants as Grown
-use Rattle.division.specs.Writing.{written}
+use Rattle.division.specs.Writing.{written, Writes, writtenOf}
+use Rattle.division.specs.Middles.{grownOf}
 
 -- ---- the steps of a curve whose vertices begin at the row `from`
 
@@ -51,8 +51,8 @@ pub record Threads (base room from rows : ℕ) (words : List ℕ) (m : Made ℕ)
   pub list : after ≡ written new (2 * rows) (quads (vertexAt words from) (parityAt words from) (m .made))
 
 abbrev pub Threaded : ℕ → ℕ → ℕ → ℕ → List ℕ → Made ℕ → List ℕ → List ℕ → List ℕ → Grown → Type 0
-Threaded base room from rows words m new after book (Grown.Entries e) = Threads base room from rows words m new after book e
-Threaded base room from rows words m new after book Grown.Full = room < length (m .book)
+Threaded base room from rows words m new after book r =
+    EndsWith (Threads base room from rows words m new after book) (room < length (m .book)) (grownOf r)
 
 -- ---- curves
 
@@ -87,10 +87,11 @@ pub record Strings (base room cells i rows : ℕ) (m : Made Curve) (new after ve
   pub strung : afterwards ≡ written vertices (2 * rows) (vertexWords (m .made))
 
 abbrev pub Strung : ℕ → ℕ → ℕ → ℕ → ℕ → Made Curve → List ℕ → List ℕ → List ℕ → List ℕ → List ℕ → Written → Type 0
-Strung base room cells i rows m new after vertices afterwards book (Rows r e) =
-    Strings base room cells i rows m new after vertices afterwards book r e
-Strung base room cells i rows m new after vertices afterwards book Full =
-    (room < length (m .book)) ⊎ (cells < rows + curveVertices (m .made))
+Strung base room cells i rows m new after vertices afterwards book r =
+    EndsWith
+    (λ (w : Writes). Strings base room cells i rows m new after vertices afterwards book (w .rows) (w .made))
+    ((room < length (m .book)) ⊎ (cells < rows + curveVertices (m .made)))
+    (writtenOf r)
 
 -- all curves: both lists are written from their slices' starts over what they held
 pub record Wound (base room cells : ℕ) (m : Made Curve) (new after vertices afterwards book : List ℕ) (r e : ℕ) : Type 0 where
@@ -103,5 +104,8 @@ pub record Wound (base room cells : ℕ) (m : Made Curve) (new after vertices af
 
 -- the lists, or that the book after is longer than the room or the curve vertices more than their cells
 abbrev pub Curved : ℕ → ℕ → ℕ → Made Curve → List ℕ → List ℕ → List ℕ → List ℕ → List ℕ → Written → Type 0
-Curved base room cells m new after vertices afterwards book (Rows r e) = Wound base room cells m new after vertices afterwards book r e
-Curved base room cells m new after vertices afterwards book Full = (room < length (m .book)) ⊎ (cells < curveVertices (m .made))
+Curved base room cells m new after vertices afterwards book r =
+    EndsWith
+    (λ (w : Writes). Wound base room cells m new after vertices afterwards book (w .rows) (w .made))
+    ((room < length (m .book)) ⊎ (cells < curveVertices (m .made)))
+    (writtenOf r)

@@ -10,7 +10,7 @@ ghost use Rattle.geom.specs.Book.{pair, each};
 ghost use Rattle.geom.specs.Kinds.{kindOf};
 ghost use Rattle.geom.specs.Elements.{pointAt, pick, shut as shutAlong, flat as flatAlong, pieces as piecesOf};
 ghost use Rattle.geom.specs.Rules.{divide as divideBy};
-ghost use Rattle.geom.specs.Memory.{firstOf, elementRow, elementOf, parityOf, parityWord};
+ghost use Rattle.geom.specs.Memory.{firstOf, elementRow, elementOf, parityOf};
 ghost use Rattle.book.specs.Cells.{pairsOf};
 ghost use Rattle.book.specs.Answers.{Ready, Answered};
 ghost use Rattle.division.specs.Writing.{written, Laying, Begun, Extended, Passed};

@@ -17,14 +17,13 @@ module _ {A : Type 0} (bytes : List ℕ) (at lent : ℕ) (row : Reader A) where
   unfolding listed
   rows-stop n k c e = rw (c .reads .reads, e) refl
 
+-- what stops alone stops with what is read behind it
+pub first-stops : {A B : Type 0} (k : ℕ) (p : Read ℕ) (then : ℕ → Reader A) (behind : ℕ → A → Reader B) → andThen p then ≡ stop k
+    → andThen p (λ (n : ℕ). _>>=_ (then n) (behind n)) ≡ stop k
+first-stops k (read n rest) then behind e = rw e refl
+first-stops k (stop m) then behind e = cc
+
 pub list-stops : {A B : Type 0} (bytes : List ℕ) (lent k : ℕ) (row : Reader A) (behind : ℕ → List A → Reader B) → listed lent row bytes ≡ stop k
     → andThen (counted lent bytes) (λ (n : ℕ). _>>=_ (several n row) (behind n)) ≡ stop k
 unfolding listed
-list-stops {A} {B} bytes lent k row behind e = go (counted lent bytes) e
-  where
-    end : (n : ℕ) (q : Read (List A)) → q ≡ stop k → andThen q (behind n) ≡ stop k
-    end n q e = rw e refl
-
-    go : (p : Read ℕ) → andThen p (λ (n : ℕ). several n row) ≡ stop k → andThen p (λ (n : ℕ). _>>=_ (several n row) (behind n)) ≡ stop k
-    go (read n b) e = end n (several n row b) e
-    go (stop m) e = cc
+list-stops bytes lent k row behind e = first-stops k (counted lent bytes) (λ (n : ℕ). several n row) behind e

@@ -1,3 +1,4 @@
 pub mod Fields
 pub mod Listed
+pub mod Parts
 pub mod Walk

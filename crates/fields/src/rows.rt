@@ -5,9 +5,9 @@ ghost use Rattle.geom.specs.File as File;
 ghost use Rattle.geom.specs.Refinement.{LIMIT};
 ghost use Rattle.fields.specs.Fields.{flagsField, wordAt, coordinateAt, vertexAt, verticesAt, parityAt, numbersAt, paritiesAt, wide, elementAt, elementsAt, Passes, Counts, Strings, Winds, WindAll};
 use crate::field::Field;
+use crate::field::byte_at;
 use crate::field::float_of;
-use crate::reader::byte;
-use crate::reader::word;
+use crate::field::word_at;
 use geom::answer::Ended;
 use judge::words::coordinate_holds;
 
@@ -15,7 +15,7 @@ use judge::words::coordinate_holds;
 pub fn carried(file: &[u8], at: usize) -> Ended
     ensures { λ r. ⌜ Passes r (now (file .entry)) at (at + 4) (wordAt (now (file .entry)) at) File.word ⌝ }
 {
-    match word(file, at) {
+    match word_at(file, at) {
         Field::Value(_) => Ended::Finished,
         Field::Refused(n) => Ended::Refused(n),
     }
@@ -25,7 +25,7 @@ pub fn carried(file: &[u8], at: usize) -> Ended
 pub fn coordinate(file: &[u8], at: usize) -> Ended
     ensures { λ r. ⌜ Passes r (now (file .entry)) at (at + 4) (coordinateAt (now (file .entry)) at) File.coordinate ⌝ }
 {
-    match word(file, at) {
+    match word_at(file, at) {
         Field::Value(pattern) => {
             if coordinate_holds(float_of(pattern)) {
                 return Ended::Finished;
@@ -40,7 +40,7 @@ pub fn coordinate(file: &[u8], at: usize) -> Ended
 pub fn number(file: &[u8], at: usize, count: usize) -> Ended
     ensures { λ r. ⌜ Passes r (now (file .entry)) at (at + 4) (wordAt (now (file .entry)) at) (File.number count) ⌝ }
 {
-    match word(file, at) {
+    match word_at(file, at) {
         Field::Value(vertex) => {
             if (vertex as usize) < count {
                 return Ended::Finished;
@@ -55,7 +55,7 @@ pub fn number(file: &[u8], at: usize, count: usize) -> Ended
 pub fn parity(file: &[u8], at: usize) -> Ended
     ensures { λ r. ⌜ Passes r (now (file .entry)) at (at + 1) (parityAt (now (file .entry)) at) File.parity ⌝ }
 {
-    match byte(file, at) {
+    match byte_at(file, at) {
         Field::Value(p) => {
             if 1 < p {
                 return Ended::Refused(5);
@@ -70,7 +70,7 @@ pub fn parity(file: &[u8], at: usize) -> Ended
 pub fn counted(file: &[u8], at: usize, lent: usize) -> Field
     ensures { λ r. ⌜ Counts r (now (file .entry)) at lent ⌝ }
 {
-    let field = word(file, at);
+    let field = word_at(file, at);
     let Field::Value(n) = field else {
         return field;
     };
@@ -87,7 +87,7 @@ pub fn counted(file: &[u8], at: usize, lent: usize) -> Field
 pub fn flags(file: &[u8], at: usize) -> Ended
     ensures { λ r. ⌜ Passes r (now (file .entry)) at (at + 1) (getD (now (file .entry)) at 0) flagsField ⌝ }
 {
-    match byte(file, at) {
+    match byte_at(file, at) {
         Field::Value(flags) => {
             if 15 < flags {
                 return Ended::Refused(5);
@@ -211,7 +211,7 @@ pub fn curve_count(file: &[u8], at: usize, lent: usize, before: usize) -> Field
     requires { ⌜ before ≤ LIMIT ⌝ }
     ensures { λ r. ⌜ Strings r (now (file .entry)) at lent before ⌝ }
 {
-    let field = word(file, at);
+    let field = word_at(file, at);
     let Field::Value(n) = field else {
         return field;
     };
@@ -233,7 +233,7 @@ pub fn curve(file: &[u8], at: usize, count: usize, lent: usize, before: usize) -
     requires { ⌜ before ≤ LIMIT ⌝ }
     ensures { λ r. ⌜ Winds r (now (file .entry)) at count lent before ⌝ }
 {
-    let tag = word(file, at);
+    let tag = word_at(file, at);
     let Field::Value(_) = tag else {
         return tag;
     };

@@ -1,30 +1,29 @@
 -- From the judgement to the walk that writes, and from what was written to the entry's answer.
 -- Assumes nothing.
 use mathlib.Core.Path.{_≡_, refl, sym, _∙_, ap}
-use mathlib.Core.Bool.{Bool, true, false}
+use mathlib.Core.Bool.{true, false}
 use mathlib.Core.List.{List}
-use Prim.Native.Nat.{ℕ, suc, _+_, _*_, _/_, _≤_}
+use Prim.Native.Nat.{ℕ, suc, _+_, _*_, _/_, _^_, _≤_, _<_}
 use native.Mathlib.Nat.{le-div-iff-mul-le, mul-comm, zero-lt-suc}
 use native.Mathlib.Omega.{arith}
 use lib.Ieee.{Float}
 use lib.ListN.{length}
 use Rattle.geom.specs.declared.answer.Sizes.{Sizes}
 use Rattle.geom.specs.Answers.{Opening, noMesh, meshOfKind}
-use Rattle.geom.specs.Book.{Kind, cubes, simplices}
+use Rattle.geom.specs.Book.{Kind}
 use Rattle.geom.specs.Mesh.{sizesOf}
 use Rattle.geom.specs.Memory.{Bench, areaCorners, volumeCorners, cells, elementWords, over, benchOf}
-use Rattle.geom.specs.Refinement.{within}
 use Rattle.geom.specs.Refusals.{benchesEqual}
-use Rattle.geom.specs.File.{stop, figure, benchOver, benchesMatch, NO-SIZES, loaded}
-use Rattle.judge.specs.declared.counts.Lengths.{Lengths}
-use Rattle.judge.specs.Counts.{lengthsOf, cellsOf}
+use Rattle.geom.specs.File.{stop, figure, benchOver, NO-SIZES, loaded}
+use Rattle.judge.specs.Counts.{lengthsOf, cellsOf, equalOf}
 use Rattle.judge.specs.Judged.{bench}
 use Rattle.judge.proofs.Verdicts.{area-few, volume-few}
 use Rattle.vertices.specs.Cells.{Stand, Over}
 use Rattle.fields.specs.Fields.{verticesAt, numbersAt, elementsAt, curvesAt}
-use Rattle.figure.specs.Places.{pointsPlace, linesPlace, areasPlace, volumesPlace, curvesPlace, meshAt, Figured}
-use Rattle.figure.specs.Written.{Words, Rows, Curves, Winded, Ready}
-use Rattle.figure.specs.Entry.{opening, outcome, equalOf, matchOf}
+use Rattle.figure.specs.declared.judging.Places.{Places}
+use Rattle.figure.specs.Places.{pointsPlace, linesPlace, areasPlace, volumesPlace, curvesPlace, meshAt, placesOf, Figured}
+use Rattle.figure.specs.Written.{Roomy, Words, Rows, Curves, Winded, Ready}
+use Rattle.figure.specs.Entry.{opening, outcome}
 
 -- ---- before the calls
 
@@ -75,6 +74,17 @@ module _ (kind : Kind) (s : Sizes) (bytes : List ℕ) (b : Bench) (r : Ready kin
         room = omega (arith, r .fits .steps, ap (λ (t : Sizes). t .«curve_vertices») (r .lain .sizes));
       }
 
+  pub places-room : (p : Places) → p ≡ placesOf kind s → length bytes < 2 ^ 64 → Roomy p
+  places-room p e h =
+      rw e
+      (record {
+        points = omega (arith, r .lain .whole);
+        lines = omega (arith, r .lain .whole);
+        areas = omega (arith, r .lain .whole);
+        volumes = omega (arith, r .lain .whole);
+        curves = omega (arith, r .lain .whole);
+      })
+
   -- ---- after them
 
   pub written : (positions : List Float) (marks points lines areas volumes curves steps : List ℕ)
@@ -91,51 +101,31 @@ module _ (kind : Kind) (s : Sizes) (bytes : List ℕ) (b : Bench) (r : Ready kin
 
 -- ---- the entry
 
--- equal benches, from the tests of either side
-module _ (kind : Kind) (first second : Lengths) (here there : Sizes) (h : here ≡ cellsOf kind first) (t : there ≡ cellsOf kind second) (p : Bool) (e : p ≡ within here there) where
-  pub equal-none : p ≡ false → false ≡ equalOf kind first second
-  unfolding equalOf
-  equal-none f = rw (← h, ← t, ← e, f) refl
-
-  pub equal-both : (q : Bool) → p ≡ true → q ≡ within there here → q ≡ equalOf kind first second
-  unfolding equalOf
-  equal-both q f g = rw (← h, ← t, ← e, f) g
-
--- for both kinds
-module _ (first second : Lengths) (p : Bool) (e : p ≡ equalOf cubes first second) where
-  pub match-none : p ≡ false → false ≡ matchOf first second
-  unfolding matchOf
-  match-none f = rw (← e, f) refl
-
-  pub match-both : (q : Bool) → p ≡ true → q ≡ equalOf simplices first second → q ≡ matchOf first second
-  unfolding matchOf
-  match-both q f g = rw (← e, f) g
-
 module _ (first second : Bench) (bytes : List ℕ) where
-  matches : matchOf (lengthsOf first) (lengthsOf second) ≡ benchesMatch first second
-  unfolding matchOf equalOf benchesMatch benchesEqual cells cellsOf
-  matches = refl
+  equal : equalOf (lengthsOf first) (lengthsOf second) ≡ benchesEqual first second
+  unfolding equalOf benchesEqual
+  equal = refl
 
   lent-same : figure (λ (kind : Kind). cellsOf kind (lengthsOf first)) bytes ≡ figure (λ (kind : Kind). cells kind first) bytes
   unfolding cells cellsOf
   lent-same = refl
 
-  pub load-nine : (o : Opening) → matchOf (lengthsOf first) (lengthsOf second) ≡ false → o ≡ opening NO-SIZES (noMesh 9) → outcome o first ≡ loaded first second bytes
+  pub load-nine : (o : Opening) → equalOf (lengthsOf first) (lengthsOf second) ≡ false → o ≡ opening NO-SIZES (noMesh 9) → outcome o first ≡ loaded first second bytes
   unfolding loaded
-  load-nine o m e = rw (sym matches ∙ m, e) refl
+  load-nine o m e = rw (sym equal ∙ m, e) refl
 
-  module _ (m : matchOf (lengthsOf first) (lengthsOf second) ≡ true) where
+  module _ (m : equalOf (lengthsOf first) (lengthsOf second) ≡ true) where
     pub load-refused : (o : Opening) (n : ℕ) → figure (λ (kind : Kind). cellsOf kind (lengthsOf first)) bytes ≡ stop n → o ≡ opening NO-SIZES (noMesh n)
         → outcome o first ≡ loaded first second bytes
     unfolding loaded
-    load-refused o n f e = rw (sym matches ∙ m, sym lent-same ∙ f, e) refl
+    load-refused o n f e = rw (sym equal ∙ m, sym lent-same ∙ f, e) refl
 
-    module _ (kind : Kind) (s : Sizes) (f : Figured kind s (λ (kind : Kind). cellsOf kind (lengthsOf first)) bytes) where
-      pub load-ready : Ready kind s bytes first
+    module _ (kind : Kind) (s : Sizes) (p : Places) (f : Figured kind s p (λ (kind : Kind). cellsOf kind (lengthsOf first)) bytes) where
+      pub load-ready : Ready kind s bytes first × (p ≡ placesOf kind s)
       unfolding cells cellsOf
-      load-ready = record { lain = f .lain; fits = f .fits }
+      load-ready = (record { lain = f .lain; fits = f .fits }, f .places)
 
       pub load-read : (o : Opening) (after : Bench) → after ≡ benchOver first (benchOf (meshAt kind s bytes)) → o ≡ opening s (meshOfKind kind)
           → outcome o after ≡ loaded first second bytes
       unfolding loaded
-      load-read o after w e = rw (sym matches ∙ m, sym lent-same ∙ f .reads, f .lain .sizes, e, w) refl
+      load-read o after w e = rw (sym equal ∙ m, sym lent-same ∙ f .reads, f .lain .sizes, e, w) refl

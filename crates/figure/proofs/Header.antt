@@ -2,7 +2,7 @@
 -- Assumes nothing.
 use mathlib.Core.Path.{_≡_, refl, sym, _∙_}
 use mathlib.Core.List.{List}
-use Prim.Native.Nat.{ℕ, zero, suc, _<_}
+use Prim.Native.Nat.{ℕ, zero, suc, _+_, _<_}
 use native.Mathlib.Omega.{arith}
 use lib.Dec.{eqb}
 use lib.ListN.{getD, drop}
@@ -15,12 +15,29 @@ use Rattle.geom.specs.Book.{Kind, cubes, simplices}
 use Rattle.geom.specs.Kinds.{kindOf}
 use Rattle.geom.specs.File.{Read, Reader, Figure, read, stop, andThen, _>>=_, judged, byte, kindField, figure}
 use Rattle.fields.specs.Fields.{Reads, Gives}
+use Rattle.fields.specs.Parts.{takenOf}
+use Rattle.fields.specs.declared.part.Taken.{Taken}
 use Rattle.fields.specs.declared.field.Field.{Field}
 use Rattle.fields.specs.declared.field.Field.the-variants as Field
 use Rattle.fields.proofs.Reading.{stopped}
 use Rattle.figure.specs.declared.judging.Found.{Found}
 use Rattle.figure.specs.declared.judging.Found.the-variants as Found
-use Rattle.figure.specs.Places.{opening, lying, kindIn, Opens, Lies, Finds}
+use Rattle.figure.specs.Picked.{kindIn, headerOf}
+use Rattle.figure.specs.Places.{Finds}
+use Rattle.figure.proofs.Lists.{lying, Lies}
+
+-- the version and the kind
+unfoldable pub opening : Reader Kind
+opening = do
+  v ← byte
+  _ ← judged 1 (eqb v 1) v
+  kindField
+
+-- the kind that was read, or the number by which the reader stops
+abbrev pub Opens : Opened → List ℕ → Type 0
+Opens Cubes bytes = opening bytes ≡ read cubes (drop 2 bytes)
+Opens Simplices bytes = opening bytes ≡ read simplices (drop 2 bytes)
+Opens (Refused n) bytes = opening bytes ≡ stop n
 
 -- ---- the kind
 
@@ -64,7 +81,7 @@ kinds bytes x (Field.Refused n) g = kind-stops bytes n g
 -- ---- the version
 
 module _ (bytes : List ℕ) (x : ℕ) (r : Reads bytes 0 1 x byte) (v : ℕ) (e : v ≡ x) where
-  pub version-other : (v ≡ 1 → ⊥) → opening bytes ≡ stop 1
+  version-other : (v ≡ 1 → ⊥) → opening bytes ≡ stop 1
   unfolding opening judged
   version-other h = rw (r .reads, ne-eqb x 1 (λ z. h (e ∙ z))) refl
 
@@ -77,9 +94,22 @@ module _ (bytes : List ℕ) (x : ℕ) (r : Reads bytes 0 1 x byte) (v : ℕ) (e 
   opens h Simplices k = version-one h ∙ k
   opens h (Refused n) k = version-one h ∙ k
 
-  -- the kind byte is the next
-  pub version-opens : v ≡ 1 → (o : Opened) (f : Field) → o ≡ kindIn f → Gives f bytes 1 2 (getD bytes 1 0) byte → Opens o bytes
-  version-opens h o f is g = rw is (opens h (kindIn f) (kinds bytes (getD bytes 1 0) f g))
+version-stops : (bytes : List ℕ) (n : ℕ) → byte bytes ≡ stop n → opening bytes ≡ stop n
+unfolding opening
+version-stops bytes n g = stopped byte _ _ _ g
+
+pub other-version : (v : ℕ) → (v ≡ 1 → ⊥) → (f : Field) → Refused 1 ≡ headerOf (Field.Value v) f
+other-version zero h f = refl
+other-version (suc zero) h f = absurd (h refl)
+other-version (suc (suc n)) h f = refl
+
+-- the kind byte stands where the version left the reader
+pub header-opens : (bytes : List ℕ) (f g : Field) (t : Taken) → Gives f bytes 0 1 (getD bytes 0 0) byte → t ≡ takenOf f 0 1 0 → Gives g bytes (t .at) (t .at + 1) (getD bytes (t .at) 0) byte
+    → Opens (headerOf f g) bytes
+header-opens bytes (Field.Value zero) g t k e l = version-other bytes _ (k .1) 0 (k .0) (λ z. omega (arith, z))
+header-opens bytes (Field.Value (suc zero)) g t k e l = opens bytes _ (k .1) 1 (k .0) refl (kindIn g) (kinds bytes (getD bytes 1 0) g (rw e at l))
+header-opens bytes (Field.Value (suc (suc n))) g t k e l = version-other bytes _ (k .1) (suc (suc n)) (k .0) (λ z. omega (arith, z))
+header-opens bytes (Field.Refused n) g t k e l = version-stops bytes n k
 
 -- ---- the whole
 
@@ -105,11 +135,12 @@ module _ (lent : Kind → Sizes) where
 
   pub figure-finds : (bytes : List ℕ) (kind : Declared.Kind) (cells : Sizes) → opening bytes ≡ read (kindOf kind) (drop 2 bytes) → cells ≡ lent (kindOf kind)
       → (r : Found) → Lies r kind cells bytes → Finds r lent bytes
-  figure-finds bytes kind cells e q (Found.Mesh k s) l =
+  figure-finds bytes kind cells e q (Found.Mesh k s p) l =
       rw (l .0)
       (record {
         reads = figure-is bytes ∙ rw (e, ← q) (l .1);
         lain = l .2;
         fits = rw q at (l .3);
+        places = l .4;
       })
   figure-finds bytes kind cells e q (Found.Refused n) l = figure-is bytes ∙ rw (e, ← q) l

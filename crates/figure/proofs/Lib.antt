@@ -4,3 +4,4 @@ pub mod Laying
 pub mod Elements
 pub mod Strings
 pub mod Benches
+pub mod Picks

@@ -1,3 +1,4 @@
 pub mod Places
+pub mod Picked
 pub mod Written
 pub mod Entry

@@ -1,26 +1,36 @@
-// The walk that judges a file: version and kind, each list, and that nothing is left over. Nothing is written.
+// What a file is found to be, from what each of its parts came to: version and kind, the first refusal of the lists, and that nothing is left over.
+// Nothing is written.
 ghost use mathlib.Core.Path.{_≡_};
 ghost use Rattle.geom.specs.Book as Book;
 ghost use Rattle.judge.specs.Counts.{cellsOf};
-ghost use Rattle.figure.specs.Places.{kindIn, Opens, Lies, Finds};
+ghost use Rattle.figure.specs.Places.{Finds};
+ghost use Rattle.figure.specs.Picked.{kindIn, headerOf, thenOf, refusalOf, valueOf, sizesIn, placesIn, listsIn, foundOf};
 use fields::field::Field;
-use fields::listed::element_list;
-use fields::listed::point_list;
-use fields::listed::vertex_list;
-use fields::reader::two_bytes;
-use fields::rows::counted;
-use fields::rows::curves as curve_list;
+use fields::part::Taken;
+use fields::walk::Walked;
+use fields::walk::walk;
+use geom::answer::Ended;
 use geom::answer::Opened;
 use geom::answer::Sizes;
 use geom::kind::Kind;
 use judge::counts::Lengths;
-use judge::counts::area_corners;
-use judge::counts::cells;
-use judge::counts::volume_corners;
 
-// What a file is found to be: a mesh of a kind, with the sizes of its lists, or refused with the number.
+// Where the reader stood before each list, that of the vertices left out, which stands behind the header.
+pub struct Places {
+    pub points: usize,
+    pub lines: usize,
+    pub areas: usize,
+    pub volumes: usize,
+    pub curves: usize,
+}
+
+// What a file is found to be: a mesh of a kind, with the sizes of its lists and their places, or refused with the number.
 pub enum Found {
-    Mesh { kind: Kind, sizes: Sizes },
+    Mesh {
+        kind: Kind,
+        sizes: Sizes,
+        places: Places,
+    },
     Refused(u8),
 }
 
@@ -42,13 +52,10 @@ pub fn kind_byte(field: Field) -> Opened
     }
 }
 
-// 1: the version byte; then the kind. One reader has read both, and the version is judged first.
-pub fn header(file: &[u8]) -> Opened
-    ensures { λ r. ⌜ Opens r (now (file .entry)) ⌝ }
+// 1: the version byte; then the kind. The reader has read both, and the version is judged first.
+pub fn header(first: Field, second: Field) -> Opened
+    ensures { λ r. ⌜ r ≡ headerOf first second ⌝ }
 {
-    let two = two_bytes(file, 0);
-    let first = two.first;
-    let second = two.second;
     match first {
         Field::Value(version) => {
             if version != 1 {
@@ -60,59 +67,98 @@ pub fn header(file: &[u8]) -> Opened
     }
 }
 
-// Vertices, points, lines, areas, volumes, curves, each list with its count first; 4 bytes left over comes last.
-pub fn lists_of(file: &[u8], kind: Kind, lent: Sizes) -> Found
-    ensures { λ r. ⌜ Lies r kind lent (now (file .entry)) ⌝ }
+// What came before, and if that was finished, a part behind it.
+pub fn then(before: Ended, t: Taken) -> Ended
+    ensures { λ r. ⌜ r ≡ thenOf before (t .field) ⌝ }
 {
-    let vertices = match vertex_list(file, 2, lent.vertices) {
-        Field::Value(n) => n as usize,
-        Field::Refused(k) => return Found::Refused(k),
+    let field = t.field;
+    let Ended::Finished = before else {
+        return before;
     };
-    let at = 6 + 25 * vertices;
-    let points = match point_list(file, at, lent.points, vertices) {
-        Field::Value(n) => n as usize,
-        Field::Refused(k) => return Found::Refused(k),
-    };
-    let at = at + 4 + 4 * points;
-    let lines = match element_list(file, at, lent.lines, 2, vertices) {
-        Field::Value(n) => n as usize,
-        Field::Refused(k) => return Found::Refused(k),
-    };
-    let at = at + 4 + 9 * lines;
-    let corners = area_corners(kind);
-    let areas = match element_list(file, at, lent.areas, corners, vertices) {
-        Field::Value(n) => n as usize,
-        Field::Refused(k) => return Found::Refused(k),
-    };
-    let at = at + 4 + (4 * corners + 1) * areas;
-    let corners = volume_corners(kind);
-    let volumes = match element_list(file, at, lent.volumes, corners, vertices) {
-        Field::Value(n) => n as usize,
-        Field::Refused(k) => return Found::Refused(k),
-    };
-    let at = at + 4 + (4 * corners + 1) * volumes;
-    let curves = match counted(file, at, lent.curves) {
-        Field::Value(n) => n as usize,
-        Field::Refused(k) => return Found::Refused(k),
-    };
-    let curve_vertices = match curve_list(file, at + 4, curves, vertices, lent.curve_vertices) {
-        Field::Value(n) => n as usize,
-        Field::Refused(k) => return Found::Refused(k),
-    };
-    if at + 4 + (5 * curve_vertices + 7 * curves) < file.len() {
-        return Found::Refused(4);
+    match field {
+        Field::Value(_) => Ended::Finished,
+        Field::Refused(n) => Ended::Refused(n),
     }
-    Found::Mesh {
-        kind,
-        sizes: Sizes {
-            vertices,
-            points,
-            lines,
-            areas,
-            volumes,
-            curves,
-            curve_vertices,
+}
+
+// The first refusal of the lists; 4 bytes left over comes last.
+pub fn refusal(w: Walked) -> Ended
+    ensures { λ r. ⌜ r ≡ refusalOf w ⌝ }
+{
+    let ended = then(Ended::Finished, w.vertices);
+    let ended = then(ended, w.points);
+    let ended = then(ended, w.lines);
+    let ended = then(ended, w.areas);
+    let ended = then(ended, w.volumes);
+    let ended = then(ended, w.curves);
+    then(ended, w.left)
+}
+
+// The number that was read.
+pub fn value_of(t: Taken) -> usize
+    ensures { λ r. ⌜ r ≡ valueOf (t .field) ⌝ }
+{
+    let field = t.field;
+    match field {
+        Field::Value(n) => n as usize,
+        Field::Refused(_) => 0,
+    }
+}
+
+// How many entries each list has.
+pub fn sizes_in(w: Walked) -> Sizes
+    ensures { λ r. ⌜ r ≡ sizesIn w ⌝ }
+{
+    Sizes {
+        vertices: w.vertices.n,
+        points: w.points.n,
+        lines: w.lines.n,
+        areas: w.areas.n,
+        volumes: w.volumes.n,
+        curves: w.curves.n,
+        curve_vertices: value_of(w.curves),
+    }
+}
+
+// Each list stands where the one before it was left.
+pub fn places_in(w: Walked) -> Places
+    ensures { λ r. ⌜ r ≡ placesIn w ⌝ }
+{
+    Places {
+        points: w.vertices.at,
+        lines: w.points.at,
+        areas: w.lines.at,
+        volumes: w.areas.at,
+        curves: w.volumes.at,
+    }
+}
+
+// The lists of a mesh of a kind.
+pub fn lists_of(kind: Kind, w: Walked) -> Found
+    ensures { λ r. ⌜ r ≡ listsIn (refusalOf w) kind w ⌝ }
+{
+    match refusal(w) {
+        Ended::Finished => Found::Mesh {
+            kind,
+            sizes: sizes_in(w),
+            places: places_in(w),
         },
+        Ended::Refused(n) => Found::Refused(n),
+    }
+}
+
+// What the walk found.
+pub fn found_by(w: Walked) -> Found
+    ensures { λ r. ⌜ r ≡ foundOf w ⌝ }
+{
+    let version = w.version;
+    let kind = w.kind;
+    let first = version.field;
+    let second = kind.field;
+    match header(first, second) {
+        Opened::Cubes => lists_of(Kind::Cubes, w),
+        Opened::Simplices => lists_of(Kind::Simplices, w),
+        Opened::Refused(n) => Found::Refused(n),
     }
 }
 
@@ -120,9 +166,5 @@ pub fn lists_of(file: &[u8], kind: Kind, lent: Sizes) -> Found
 pub fn figure(file: &[u8], first: Lengths) -> Found
     ensures { λ r. ⌜ Finds r (λ (kind : Book.Kind). cellsOf kind first) (now (file .entry)) ⌝ }
 {
-    match header(file) {
-        Opened::Cubes => lists_of(file, Kind::Cubes, cells(Kind::Cubes, first)),
-        Opened::Simplices => lists_of(file, Kind::Simplices, cells(Kind::Simplices, first)),
-        Opened::Refused(n) => Found::Refused(n),
-    }
+    found_by(walk(file, first))
 }

@@ -5,7 +5,7 @@ ghost use Rattle.geom.specs.Answers.{openingOf, noMesh, meshOfKind};
 ghost use Rattle.geom.specs.Kinds.{kindOf};
 ghost use Rattle.geom.specs.File.{NO-SIZES, loaded};
 ghost use Rattle.judge.specs.Judged.{bench};
-ghost use Rattle.figure.specs.Entry.{opening, outcome, equalOf, matchOf};
+ghost use Rattle.figure.specs.Entry.{opening, outcome};
 use crate::judging::Found;
 use crate::judging::figure;
 use crate::writing::write;
@@ -14,33 +14,10 @@ use geom::answer::Reading;
 use geom::answer::Sizes;
 use geom::kind::Kind;
 use judge::counts::Lengths;
-use judge::counts::cells;
-use judge::counts::within;
+use judge::counts::benches_equal;
 
 pub mod judging;
 pub mod writing;
-
-// A list's two benches are equal: as many lent cells.
-fn equal(kind: Kind, first: Lengths, second: Lengths) -> bool
-    ensures { λ r. ⌜ r ≡ equalOf (kindOf kind) first second ⌝ }
-{
-    let here = cells(kind, first);
-    let there = cells(kind, second);
-    if !within(here, there) {
-        return false;
-    }
-    within(there, here)
-}
-
-// 9: the kind isn't known yet, so it is judged for both.
-fn benches_match(first: Lengths, second: Lengths) -> bool
-    ensures { λ r. ⌜ r ≡ matchOf first second ⌝ }
-{
-    if !equal(Kind::Cubes, first, second) {
-        return false;
-    }
-    equal(Kind::Simplices, first, second)
-}
 
 // After a refusal nothing was read: all sizes are 0.
 fn refused(n: u8) -> Reading
@@ -120,16 +97,21 @@ pub fn load(
         curves: other_curves.len(),
         curve_vertices: other_steps.len(),
     };
-    if !benches_match(first, second) {
+    if !benches_equal(first, second) {
         return refused(9);
     }
     match figure(file, first) {
         Found::Refused(n) => refused(n),
-        Found::Mesh { kind, sizes } => {
+        Found::Mesh {
+            kind,
+            sizes,
+            places,
+        } => {
             write(
                 file,
                 kind,
                 sizes,
+                places,
                 positions,
                 marks,
                 points,

@@ -1,6 +1,6 @@
-// The walk that writes: the judgement has passed, so every field is read at its place, and each list is written from its start.
+// What the reader has walked over is written: the judgement has passed, so every field is read at its place, and each list is written from its start.
 ghost use mathlib.Core.Path.{_≡_};
-ghost use Prim.Native.Nat.{_+_, _*_, _^_, _≤_, _<_};
+ghost use Prim.Native.Nat.{_+_, _*_, _≤_, _<_};
 ghost use lib.ListN.{length};
 ghost use lib.Seq.{sets};
 ghost use Rattle.geom.specs.Kinds.{kindOf};
@@ -9,8 +9,9 @@ ghost use Rattle.geom.specs.File.{benchOver};
 ghost use Rattle.judge.specs.Judged.{bench};
 ghost use Rattle.vertices.specs.Cells.{Over, Stand};
 ghost use Rattle.fields.specs.Fields.{vertexAt, verticesAt, numbersAt, wide, elementAt, elementsAt, curvesAt};
-ghost use Rattle.figure.specs.Places.{meshAt, endPlace};
-ghost use Rattle.figure.specs.Written.{rowWords, stepWord, stepsAt, startsOf, Words, Rows, Steps, Curve, Curves, Wind, Winded, Ready};
+ghost use Rattle.figure.specs.Places.{meshAt, placesOf};
+ghost use Rattle.figure.specs.Written.{rowWords, stepWord, stepsAt, Roomy, entriesOf, Words, Rows, Steps, Curve, Curves, Wind, Winded, Ready};
+use crate::judging::Places;
 use fields::field::big_endian;
 use fields::field::float_of;
 use geom::answer::Sizes;
@@ -20,15 +21,6 @@ use judge::counts::area_corners;
 use judge::counts::volume_corners;
 use numbers::vec4::Vec4;
 use vertices::make::put_vertex;
-
-// Where the entries of each list begin, those of the vertices left out.
-pub struct Starts {
-    pub points: usize,
-    pub lines: usize,
-    pub areas: usize,
-    pub volumes: usize,
-    pub curves: usize,
-}
 
 // The vertex at a place.
 pub fn vertex_of(file: &[u8], at: usize) -> Vertex
@@ -183,30 +175,26 @@ pub fn put_curves(file: &[u8], at: usize, curves: &mut [u32], steps: &mut [u32],
     }
 }
 
-// The places of a mesh of a kind and sizes.
-pub fn starts_of(kind: Kind, s: Sizes) -> Starts
-    requires { ⌜ endPlace (kindOf kind) s < 2 ^ 64 ⌝ }
-    ensures { λ r. ⌜ r ≡ startsOf (kindOf kind) s ⌝ }
+// Where the entries of each list begin: behind its count.
+pub fn entries_of(p: Places) -> Places
+    requires { ⌜ Roomy p ⌝ }
+    ensures { λ r. ⌜ r ≡ entriesOf p ⌝ }
 {
-    let points = 6 + 25 * s.vertices + 4;
-    let lines = points + 4 * s.points + 4;
-    let areas = lines + 9 * s.lines + 4;
-    let volumes = areas + (4 * area_corners(kind) + 1) * s.areas + 4;
-    let curves = volumes + (4 * volume_corners(kind) + 1) * s.volumes + 4;
-    Starts {
-        points,
-        lines,
-        areas,
-        volumes,
-        curves,
+    Places {
+        points: p.points + 4,
+        lines: p.lines + 4,
+        areas: p.areas + 4,
+        volumes: p.volumes + 4,
+        curves: p.curves + 4,
     }
 }
 
-// The mesh of a file is written to a bench.
+// The mesh of a file is written to a bench, each list from the place where the reader stood before it, behind its count.
 pub fn write(
     file: &[u8],
     kind: Kind,
     s: Sizes,
+    places: Places,
     positions: &mut [f32],
     marks: &mut [u32],
     points: &mut [u32],
@@ -217,9 +205,10 @@ pub fn write(
     steps: &mut [u32],
 )
     requires { ⌜ Ready (kindOf kind) s (now file) (bench (now positions) (now marks) (now points) (now lines) (now areas) (now volumes) (now curves) (now steps)) ⌝ }
+    requires { ⌜ places ≡ placesOf (kindOf kind) s ⌝ }
     ensures { λ r. ⌜ bench (now (positions .exit)) (now (marks .exit)) (now (points .exit)) (now (lines .exit)) (now (areas .exit)) (now (volumes .exit)) (now (curves .exit)) (now (steps .exit)) ≡ benchOver (bench (now (positions .entry)) (now (marks .entry)) (now (points .entry)) (now (lines .entry)) (now (areas .entry)) (now (volumes .entry)) (now (curves .entry)) (now (steps .entry))) (benchOf (meshAt (kindOf kind) s (now (file .entry)))) ⌝ }
 {
-    let start = starts_of(kind, s);
+    let start = entries_of(places);
     put_vertices(file, 6, positions, marks, s.vertices);
     put_points(file, start.points, points, s.points);
     put_elements(file, start.lines, lines, 2, s.lines);

@@ -20,10 +20,10 @@ use Rattle.geom.specs.Form.{Form}
 use Rattle.geom.specs.Memory.{BenchIn, cells, ElementRow, CurveRow, StepRow, RowsIn, firstOf, elementRow, rowsOf, areaCorners, volumeCorners, elementOf, curvesOf, meshOf}
 use Rattle.geom.specs.Refinement.{within}
 use Rattle.geom.specs.Refusals.{every, goodParity, goodNumber, curveLengths, countsHold, numbersHold, handedIn, DeskIn, benchesHold, refinementVerdict}
+use Rattle.geom.specs.Between.{All, Below, Proper, Well}
 use Rattle.geom.proofs.Rows.{length-firstOf}
-use Rattle.geom.proofs.Lists.{All, true-is, all-map, all-append, all-of-map, all-take, all-drop}
+use Rattle.geom.proofs.Lists.{true-is, all-map, all-append, all-of-map, all-take, all-drop}
 use Rattle.geom.proofs.Within.{within-facts}
-use Rattle.geom.proofs.Well.{Below, Proper, Well}
 
 -- ---- tests that passed
 

@@ -18,15 +18,16 @@ use Rattle.geom.specs.Ledger.{faceShape, volumeShape}
 use Rattle.geom.specs.Form.{Form}
 use Rattle.geom.specs.Mesh.{MeshIn, sizesOf}
 use Rattle.geom.specs.Answers.{accepted, refused, Due, firstDue}
-use Rattle.geom.specs.Refinement.{StateIn, passOver, stateAfter, begun, Lent, LIMITS, within, fits, RunIn, runFrom, run}
+use Rattle.geom.specs.Refinement.{StateIn, passOver, stateAfter, begun, Lent, LIMITS, within, fits, RunIn, runFrom, run, went}
 use Rattle.geom.specs.Memory.{BenchIn, cells, ElementRow, CurveRow, StepRow, RowsIn, rowsOf, stepRow, elementOf, curvesOf, meshOf}
 use Rattle.geom.specs.Refusals.{every, goodParity, goodPositionIn, goodNumber, goodCurve, curveLengths, countsHold, positionsHold, numbersHold, handedIn, DeskIn, lentBy, benchesHold, refinementVerdict, StandsFor}
+use Rattle.geom.specs.Between.{All, Below, Proper, Well}
 use Rattle.geom.proofs.Rows.{length-firstOf}
 use Rattle.geom.proofs.Stated.{sizes-stated}
-use Rattle.geom.proofs.Lists.{All, all-map, all-append, all-under-map, true-is, same-number, and-true-left, and-true-right}
+use Rattle.geom.proofs.Lists.{all-map, all-append, all-under-map, true-is, same-number, and-true-left, and-true-right}
 use Rattle.geom.proofs.Standing.{every-true}
-use Rattle.geom.proofs.Well.{Below, Proper, Well, below-more, pass-is}
-use Rattle.geom.proofs.Left.{went, run-left}
+use Rattle.geom.proofs.Well.{below-more, pass-is}
+use Rattle.geom.proofs.Left.{run-left}
 use Rattle.geom.proofs.Accepted.{none-due, holds, every-holds, below, numbers, accepted-well, vertex-count}
 use Rattle.geom.proofs.Refined.{original, runOf}
 use Rattle.geom.proofs.Steady.{Placed, Steady, placed-after}

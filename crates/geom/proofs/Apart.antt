@@ -14,11 +14,11 @@ use Rattle.geom.specs.Rules.{lineEnds, linePieces, line, Went, passBy}
 use Rattle.geom.specs.Passes.{pass}
 use Rattle.geom.specs.Form.{Form}
 use Rattle.geom.specs.Mesh.{MeshIn}
-use Rattle.geom.specs.Refinement.{passOver, stateAfter}
+use Rattle.geom.specs.Refinement.{passOver, stateAfter, went}
 use Rattle.geom.specs.Soundness.{endsDiffer, Apart}
-use Rattle.geom.proofs.Lists.{All, all-append}
-use Rattle.geom.proofs.Well.{Below, Proper, Well, Good, pass-is}
-use Rattle.geom.proofs.Left.{went}
+use Rattle.geom.specs.Between.{All, Below, Proper, Well, Good}
+use Rattle.geom.proofs.Lists.{all-append}
+use Rattle.geom.proofs.Well.{pass-is}
 use Rattle.geom.proofs.Standing.{every-true}
 use Rattle.geom.proofs.Pinned.{good-after}
 

@@ -14,7 +14,8 @@ use Rattle.geom.specs.Form.{Form}
 use Rattle.geom.specs.Mesh.{curveVertices}
 use Rattle.geom.specs.Memory.{ElementRow, CurveRow, StepRow, firstOf, fourRow, vertexRowIn, positionWordsIn, markWordsIn, elementRow, curveRow, stepRow, parityOf, elementOf, stepWords, curvesOf, parityWord, elementWords, stepsWords, curveWords, vertexWords}
 use Rattle.geom.specs.Refusals.{curveLengths}
-use Rattle.geom.proofs.Lists.{All, all-each}
+use Rattle.geom.specs.Between.{All}
+use Rattle.geom.proofs.Lists.{all-each}
 use Rattle.geom.proofs.Rows.{firstOf-same, firstOf-cons, flatMap-append}
 
 -- ---- rows of any width, from the front

@@ -10,7 +10,8 @@ use native.Mathlib.Omega.{arith}
 use lib.Dec.{eqb}
 use lib.ListN.{length, length-append}
 use Rattle.geom.specs.Book.{Kind, cubes, simplices, Pair, samePair, Book, Found, found, none, find, seek, vertexOr, bookOr, midpoint, Made, each, place, mids}
-use Rattle.geom.proofs.Lists.{All, all-append, same-number, eqb-same, and-true-left, and-true-right}
+use Rattle.geom.specs.Between.{All, Low, Rising}
+use Rattle.geom.proofs.Lists.{all-append, same-number, eqb-same, and-true-left, and-true-right}
 
 -- ── the search ──
 
@@ -78,15 +79,6 @@ find-injective b (r ∷ book) p q v e h = go (samePair r p) (samePair r q) refl 
     go false false x y ih i j = ih i j
 
 -- ── a book whose entries are younger than their ends ──
-
--- both ends are below m
-pub record Low (m : ℕ) (q : Pair) : Type 0 where
-  pub start : q .first < m
-  pub stop : q .second < m
-
-abbrev pub Rising : ℕ → Book → Type 0
-Rising b [] = Unit {0}
-Rising b (p ∷ book) = Low b p × Rising (suc b) book
 
 rising-new : (b : ℕ) (book : Book) (q : Pair) → Low (b + length book) q → Rising b book → Rising b (book ++ q ∷ [])
 rising-new b [] q l r = (record { start = omega (arith, l .start); stop = omega (arith, l .stop) }, tt)

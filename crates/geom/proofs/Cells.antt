@@ -14,7 +14,8 @@ use Rattle.geom.specs.Book.{Kind, cubes, simplices, Book, midpoint}
 use Rattle.geom.specs.Elements.{Element, Row, pick, pointAt, pairsOf, flat, unless, pieces, assemble}
 use Rattle.geom.specs.Rules.{same, turned}
 use Rattle.geom.specs.Ledger.{sameList, signed, spread, faceTable, volumeShape, faceShape, faces, facePieces, ledger}
-use Rattle.geom.proofs.Lists.{All, spelled}
+use Rattle.geom.specs.Between.{All}
+use Rattle.geom.proofs.Lists.{spelled}
 use Rattle.geom.proofs.Integers.{signed-zero, signed-add, signed-times, signed-swap}
 use Rattle.geom.proofs.Spread.{raw, kept, spread-signed}
 use Rattle.geom.proofs.Chains.{under, over, within, rowsWithin, seats, raw-under, strike, cancel, negated, same-sum}

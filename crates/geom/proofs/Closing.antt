@@ -17,13 +17,14 @@ use Rattle.geom.specs.Elements.{Element, Row, Lists, pointAt, pick, pair
 use Rattle.geom.specs.Rules.{Went, passBy}
 use Rattle.geom.specs.Passes.{pass, passes}
 use Rattle.geom.specs.Ledger.{Ledger, sameList, signed, spread, faceTable, volumeShape, faceShape, faces, ledger, refine, Closed}
-use Rattle.geom.proofs.Lists.{All, all-under-map, below-number, and-true-left, and-true-right, same-list}
+use Rattle.geom.specs.Between.{areaRule, volumeRule, All, Below, IsVolume, Well, Good}
+use Rattle.geom.proofs.Lists.{all-under-map, below-number, and-true-left, and-true-right, same-list}
 use Rattle.geom.proofs.Spread.{only}
 use Rattle.geom.proofs.Chains.{at-map}
 use Rattle.geom.proofs.Books.{Known, same-pair, Grown, grown-trans}
 use Rattle.geom.proofs.Refining.{refine-zero}
 use Rattle.geom.proofs.Cells.{Sized, length-pick, sized-faces}
-use Rattle.geom.proofs.Well.{all-kept, IsVolume, grown-volumes, volume-over, Well, Below, below-more, some-below, pick-below, some-volume, areaRule, volumeRule, pass-is, Good, afterAreas, afterCurves, curves-grow, pass-longer, pass-good}
+use Rattle.geom.proofs.Well.{all-kept, grown-volumes, volume-over, below-more, some-below, pick-below, some-volume, pass-is, afterAreas, afterCurves, curves-grow, pass-longer, pass-good}
 use Rattle.geom.proofs.Steps.{pass-adds, passes-good}
 use Rattle.geom.proofs.Corners.{Entry, corner, refine-corner}
 

@@ -14,9 +14,10 @@ use Rattle.geom.specs.Book.{Kind, cubes, simplices, Pair, pair, Book, mi
 use Rattle.geom.specs.Elements.{Element, pointAt, pick, pairsOf, flat}
 use Rattle.geom.specs.Cubes.{SQUARE-AXES}
 use Rattle.geom.specs.Ledger.{Ledger, sameList, spread, faceShape, facePieces, refine}
-use Rattle.geom.proofs.Lists.{All, all-at, spelled, sameList-same, sameList-other}
+use Rattle.geom.specs.Between.{All, Low, Rising}
+use Rattle.geom.proofs.Lists.{all-at, spelled, sameList-same, sameList-other}
 use Rattle.geom.proofs.Sums.{lists-one}
-use Rattle.geom.proofs.Books.{Low, Rising, Known, Stands, above, still, midpoint-above, midpoint-stands, midpoint-injective}
+use Rattle.geom.proofs.Books.{Known, Stands, above, still, midpoint-above, midpoint-stands, midpoint-injective}
 use Rattle.geom.proofs.Spread.{only, raw, kept}
 use Rattle.geom.proofs.Refining.{Face}
 use Rattle.geom.proofs.Cells.{facePoints, face-pieces}

@@ -16,10 +16,10 @@ use Rattle.geom.specs.Elements.{Element, Lists, pick, pairsOf, flat, unl
 use Rattle.geom.specs.Cubes.{SQUARE-AXES}
 use Rattle.geom.specs.Passes.{passes, listsAfter, bookAfter}
 use Rattle.geom.specs.Ledger.{sameList, spread, ledger, refined, Closed, facePieces, sumLists}
+use Rattle.geom.specs.Between.{Fits, Well}
 use Rattle.geom.proofs.Lists.{sameList-same, sameList-other}
-use Rattle.geom.proofs.Sums.{Fits, lists-one, lists-none}
+use Rattle.geom.proofs.Sums.{lists-one, lists-none}
 use Rattle.geom.proofs.Spread.{spread-zero}
-use Rattle.geom.proofs.Well.{Well}
 use Rattle.geom.proofs.Steps.{passes-add, passes-good}
 use Rattle.geom.proofs.Corners.{Entry}
 use Rattle.geom.proofs.Closing.{entry-or-zero, passes-close, passes-open}

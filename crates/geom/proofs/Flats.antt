@@ -16,7 +16,8 @@ use Rattle.geom.specs.Book.{Kind, cubes, simplices, Pair, Book, pair, se
 use Rattle.geom.specs.Elements.{pick, pointAt, pairsOf, shut, flat, unless, pieces, assemble}
 use Rattle.geom.specs.Cubes.{SQUARE-AXES}
 use Rattle.geom.specs.Ledger.{sameList, signed, spread, CUBE-FACES, faceTable, volumeShape, faceShape, facePieces}
-use Rattle.geom.proofs.Lists.{All, same-number, eqb-same, and-true-left, and-true-right, spelled}
+use Rattle.geom.specs.Between.{All}
+use Rattle.geom.proofs.Lists.{same-number, eqb-same, and-true-left, and-true-right, spelled}
 use Rattle.geom.proofs.Spread.{only}
 
 false-true : {A : Type 0} → false ≡ true → A

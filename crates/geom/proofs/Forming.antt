@@ -19,11 +19,11 @@ use Rattle.geom.specs.Vertices.{midpointIn, pairIn, vertexIn}
 use Rattle.geom.specs.Smoothing.{GatheredIn, movedIn, settledIn, settledFromIn, smoothedIn, withMidpointsIn, gatheredIn}
 use Rattle.geom.specs.Memory.{CurveRow, StepRow, stepWords, curvesOf, parityOf, areaCorners, volumeCorners}
 use Rattle.geom.specs.Refusals.{goodFlags}
-use Rattle.geom.specs.Refinement.{StateIn, passOver}
-use Rattle.geom.proofs.Lists.{All, all-map, all-append, all-of-map, all-each, true-is}
+use Rattle.geom.specs.Refinement.{StateIn, passOver, went}
+use Rattle.geom.specs.Between.{All, Proper, IsArea, IsVolume, Good}
+use Rattle.geom.proofs.Lists.{all-map, all-append, all-of-map, all-each, true-is}
 use Rattle.geom.proofs.Back.{Stepped}
-use Rattle.geom.proofs.Left.{went}
-use Rattle.geom.proofs.Well.{Proper, IsArea, IsVolume, Good, pass-is, pass-good}
+use Rattle.geom.proofs.Well.{pass-is, pass-good}
 use Rattle.geom.proofs.Standing.{FlaggedIn, Formed}
 
 -- ---- flags

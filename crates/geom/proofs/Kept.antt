@@ -15,11 +15,11 @@ use Rattle.geom.specs.Answers.{accepted}
 use Rattle.geom.specs.Refinement.{stateAfter, RunIn}
 use Rattle.geom.specs.Refusals.{goodPositionIn, DeskIn, lentBy, refinementVerdict}
 use Rattle.geom.specs.Soundness.{Sound}
+use Rattle.geom.specs.Between.{Well}
 use Rattle.geom.proofs.Left.{run-left, run-lists}
 use Rattle.geom.proofs.Accepted.{accepted-well}
 use Rattle.geom.proofs.Refined.{original, runOf}
 use Rattle.geom.proofs.Standing.{every-true}
-use Rattle.geom.proofs.Well.{Well}
 use Rattle.geom.proofs.Steady.{Steady}
 use Rattle.geom.proofs.Pinned.{kept-after, counted, middle-after, tagged-after}
 use Rattle.geom.proofs.Apart.{apart-after, still-apart}

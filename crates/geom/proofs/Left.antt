@@ -9,11 +9,7 @@ use Rattle.geom.specs.Rules.{Went}
 use Rattle.geom.specs.Passes.{pass, passes, listsAfter, bookAfter}
 use Rattle.geom.specs.Form.{Form}
 use Rattle.geom.specs.Mesh.{MeshIn}
-use Rattle.geom.specs.Refinement.{StateIn, passOver, stateAfter, Lent, fits, RunIn, runFrom, run}
-
--- the lists and the book of a state
-abbrev pub went : {F : Form} → StateIn F → Went
-went s = record { lists = s .mesh .lists; book = s .book }
+use Rattle.geom.specs.Refinement.{StateIn, went, passOver, stateAfter, Lent, fits, RunIn, runFrom, run}
 
 -- n passes over a mesh are n passes over its lists
 pub went-after : {F : Form} (kind : Kind) (time : Bool) (mesh : MeshIn F) (n : ℕ)

@@ -4,6 +4,8 @@ pub mod Marked
 pub mod Lists
 pub mod Rows
 pub mod Within
+pub mod Equal
+pub mod Endings
 pub mod Stated
 pub mod Integers
 pub mod Sums

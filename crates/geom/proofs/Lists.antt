@@ -9,11 +9,7 @@ use lib.Dec.{T, eqb, eqb→eq, eqb-refl, ltb, ltb→lt}
 use lib.ListN.{length, take, drop}
 use Rattle.geom.specs.Elements.{pointAt, pick}
 use Rattle.geom.specs.Ledger.{sameList}
-
--- P holds of each entry
-abbrev pub All : {A : Type 0} → (A → Type 0) → List A → Type 0
-All P [] = Unit {0}
-All P (x ∷ xs) = P x × All P xs
+use Rattle.geom.specs.Between.{All}
 
 pub all-map : {A : Type 0} {P Q : A → Type 0} → ((x : A) → P x → Q x) → (xs : List A) → All P xs → All Q xs
 all-map f [] a = tt

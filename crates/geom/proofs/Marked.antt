@@ -4,7 +4,7 @@
 use mathlib.Core.Path.{_≡_, refl}
 use mathlib.Core.Bool.{Bool, true, false, _&&_}
 use mathlib.Core.List.{List, [], _∷_, _++_, map, flatMap}
-use Prim.Native.Nat.{ℕ}
+use Prim.Native.Nat.{ℕ, _*_}
 use lib.Ieee as Ieee
 use lib.Ieee.{Float, binary32}
 use lib.ListN.{length, replicate}
@@ -90,6 +90,23 @@ sided =
 abbrev example : Mesh
 example = mesh (vertex 0 0 ∷ vertex 8 0 ∷ []) (even ((0 ∷ 1 ∷ []) ∷ [])) [] [] []
 
+-- one entry in each list, with as many vertices as a volume of the kind has corners
+abbrev one : Kind → Mesh
+one kind =
+    let numbers = Memory.firstOf (λ (i : ℕ). i) in
+    let vertices = Memory.firstOf (λ (i : ℕ). vertex i 0) (Memory.volumeCorners kind) in
+    record {
+      vertices = vertices;
+      points = 0 ∷ [];
+      lists =
+          record {
+            lines = even (numbers 2 ∷ []);
+            areas = even (numbers (Memory.areaCorners kind) ∷ []);
+            volumes = even (numbers (Memory.volumeCorners kind) ∷ []);
+            curves = record { tag = 7; vertices = numbers 2; parities = Odd ∷ [] } ∷ [];
+          };
+    }
+
 -- ---- what is asked
 
 -- the bit pattern of a number
@@ -145,9 +162,10 @@ rootBits b = (bits (Root.root (Ieee.ofBits binary32 b)) ∷ []) ∷ []
 abbrev cubesOf : Mesh → List (List ℕ)
 cubesOf m = (length (m .vertices) ∷ length (m .lists .volumes) ∷ []) ∷ []
 
-abbrev numberOf : Answers.Verdict → ℕ
-numberOf Answers.accepted = 0
-numberOf (Answers.refused n) = n
+-- the refusal's number, or none
+abbrev numbersOf : Answers.Verdict → List ℕ
+numbersOf Answers.accepted = []
+numbersOf (Answers.refused n) = n ∷ []
 
 abbrev room : ℕ → ℕ → Sizes
 room vertices ls =
@@ -157,7 +175,7 @@ room vertices ls =
 abbrev roomOf : ℕ → ℕ → ℕ → List ℕ
 roomOf vertices ls book =
     let r = Refinement.run cubes false (record { cells = room vertices ls; book = book }) 2 example in
-    r .passes ∷ numberOf (r .verdict) ∷ []
+    r .passes ∷ numbersOf (r .verdict)
 
 abbrev bench : ℕ → ℕ → ℕ → ℕ → Memory.Bench
 bench x flags point curveCount =
@@ -172,17 +190,26 @@ bench x flags point curveCount =
       curveVertices = [];
     }
 
--- The refusal of a refinement, 0 for none, by a vertex's x and flag byte, a point, how many curves there are, and the vertex count of the first where no curve
--- vertex is handed in.
-pub refusalOf : ℕ → ℕ → ℕ → ℕ → ℕ → ℕ
+-- the refusal of a refinement of a mesh on a bench, with as many cells of smoothing as there are vertices
+pub refusalOn : Kind → Sizes → Memory.Bench → List ℕ
 unfolding Refinement.within Answers.firstDue Memory.cells Memory.firstOf Memory.vertexRowIn Memory.fourRow Memory.curveRow Memory.rowsOf Memory.stepWords Memory.curveParts Refusals.every Refusals.goodPositionIn Refusals.goodCurve Refusals.curveLengths Refusals.countsHold Refusals.marksHold Refusals.positionsHold Refusals.numbersHold Refusals.handedIn Refusals.benchesEqual Refusals.benchesHold Refusals.refinementVerdict
-refusalOf x flags point curves curveCount =
-    let b = bench x flags point curveCount in
-    numberOf
-    (Refusals.refinementVerdict cubes
-    (record { vertices = 1; points = 1; lines = 0; areas = 0; volumes = 0; curves = curves; «curve_vertices» = 0 })
-    (record { first = b; second = b; book = []; sums = replicate 4 (count 0); tallies = replicate 2 0 })
+refusalOn kind s b =
+    numbersOf
+    (Refusals.refinementVerdict kind s
+    (record { first = b; second = b; book = []; sums = replicate (4 * s .vertices) (count 0); tallies = replicate (2 * s .vertices) 0 })
     0)
+
+-- by a vertex's x and flag byte, a point, how many curves there are, and the vertex count of the first where no curve vertex is handed in
+abbrev refusalOf : ℕ → ℕ → ℕ → ℕ → ℕ → List ℕ
+refusalOf x flags point curves curveCount =
+    refusalOn cubes
+    (record { vertices = 1; points = 1; lines = 0; areas = 0; volumes = 0; curves = curves; «curve_vertices» = 0 })
+    (bench x flags point curveCount)
+
+-- of a mesh whose words fill what is lent
+pub refusalFor : Kind → Mesh → List ℕ
+unfolding Memory.elementRow Memory.stepRow Memory.elementWords Memory.stepsWords Memory.curveWords Memory.vertexWords Memory.benchOf flatMap
+refusalFor kind m = refusalOn kind (Mesh.sizesOf m) (Memory.benchOf m)
 
 -- what `sheet` prints
 pub sheetOf : List ℕ → List ℕ
@@ -258,7 +285,7 @@ cases =
     (vertex 2 0 ∷ vertex 6 0 ∷ vertex 2 6 ∷ vertex 6 6 ∷ vertex 4 0 ∷ vertex 4 4 ∷ vertex 2 4 ∷ vertex 6 4 ∷ vertex 4 6 ∷ []))
     -- Exactly full lists, one short.
     ∷ case (roomOf 5 4 3 ∷ roomOf 3 2 1 ∷ roomOf 4 4 3 ∷ roomOf 5 3 3 ∷ roomOf 5 4 2 ∷ roomOf 2 2 1 ∷ roomOf 3 1 1 ∷ roomOf 3 2 0 ∷ [])
-    ((2 ∷ 0 ∷ [])
+    ((2 ∷ [])
     ∷ (1 ∷ 10 ∷ [])
     ∷ (1 ∷ 10 ∷ [])
     ∷ (1 ∷ 10 ∷ [])
@@ -267,17 +294,18 @@ cases =
     ∷ (0 ∷ 10 ∷ [])
     ∷ (0 ∷ 10 ∷ [])
     ∷ [])
-    -- In memory: 9, 5, 6, 7, 8; and a mesh that is accepted.
+    -- In memory: 9, 5, 6, 7, 8; and meshes that are accepted, among them one of each kind with an entry in each list.
     ∷ case
-    ((refusalOf 1025 16 1 1 1
+    (refusalOf 1025 16 1 1 1
     ∷ refusalOf 1025 16 1 1 0
     ∷ refusalOf 1025 15 1 1 0
     ∷ refusalOf 1024 15 1 1 0
     ∷ refusalOf 1024 15 0 1 0
     ∷ refusalOf 1024 15 0 0 0
+    ∷ refusalFor cubes (one cubes)
+    ∷ refusalFor simplices (one simplices)
     ∷ [])
-    ∷ [])
-    ((9 ∷ 5 ∷ 6 ∷ 7 ∷ 8 ∷ 0 ∷ []) ∷ [])
+    ((9 ∷ []) ∷ (5 ∷ []) ∷ (6 ∷ []) ∷ (7 ∷ []) ∷ (8 ∷ []) ∷ [] ∷ [] ∷ [] ∷ [])
     -- Section 8: depth 1, smooth_time 0, and the file.
     ∷ case (sheetOf (1 ∷ 0 ∷ fileBytes cubes example) ∷ []) (printed ∷ [])
     ∷ []
@@ -295,5 +323,5 @@ passed [] = true
 passed (c ∷ cs) = sameRows (c .found) (c .marked) && passed cs
 
 pub all-as-marked : passed cases ≡ true
-unfolding Ledger.sameList bits rootBits refined fileBytes refusalOf sheetOf
+unfolding Ledger.sameList bits rootBits refined fileBytes refusalOn refusalFor sheetOf
 all-as-marked = refl

@@ -20,14 +20,15 @@ use Rattle.geom.specs.Form.{Form}
 use Rattle.geom.specs.Mesh.{MeshIn}
 use Rattle.geom.specs.Vertices.{flagged, strand, vertexIn, midpointIn, pairIn}
 use Rattle.geom.specs.Smoothing.{withMidpointsIn, GatheredIn, gatheredIn, replaced, movedIn, settledIn, settledFromIn, smoothedIn}
-use Rattle.geom.specs.Refinement.{StateIn, passOver, stateAfter}
+use Rattle.geom.specs.Refinement.{StateIn, passOver, stateAfter, went}
 use Rattle.geom.specs.Soundness.{Axis, x-axis, y-axis, z-axis, w-axis, bit, on, Pinned, Kept, Middle, Inherits, entry}
-use Rattle.geom.proofs.Lists.{All, and-false}
+use Rattle.geom.specs.Between.{All, Well, Low, Rising, Good}
+use Rattle.geom.proofs.Lists.{and-false}
 use Rattle.geom.proofs.Rows.{getD-any}
-use Rattle.geom.proofs.Books.{Low, Rising, Grown}
-use Rattle.geom.proofs.Well.{Well, Good, pass-grows}
+use Rattle.geom.proofs.Books.{Grown}
+use Rattle.geom.proofs.Well.{pass-grows}
 use Rattle.geom.proofs.Steps.{passes-good}
-use Rattle.geom.proofs.Left.{went, went-after}
+use Rattle.geom.proofs.Left.{went-after}
 use Rattle.geom.proofs.Steady.{Steady}
 
 -- ---- what stays of a vertex

@@ -13,8 +13,8 @@ use Rattle.geom.specs.Elements.{Element, Lists, Shape, pointAt, pick, fl
 use Rattle.geom.specs.Rules.{divide, passBy}
 use Rattle.geom.specs.Simplices.{TRIANGLE, TETRAHEDRON, triangle, tetrahedron, simplexPass}
 use Rattle.geom.specs.Passes.{passes}
-use Rattle.geom.proofs.Lists.{All, spelled}
-use Rattle.geom.proofs.Well.{Proper, Well}
+use Rattle.geom.specs.Between.{All, Proper, Well}
+use Rattle.geom.proofs.Lists.{spelled}
 use Rattle.geom.proofs.Steps.{passes-good}
 
 -- corner i of the first piece, corner i + 1 of the second, and so on, k of them

@@ -8,8 +8,9 @@ use lib.ListN.{length}
 use Rattle.geom.specs.Book.{Kind, Book}
 use Rattle.geom.specs.Elements.{Element}
 use Rattle.geom.specs.Ledger.{Ledger, sameList, signed, spread, faceShape, facePieces, sumLists, refine}
-use Rattle.geom.proofs.Lists.{All, sameList-same, sameList-other}
-use Rattle.geom.proofs.Sums.{Fits, lists-add, lists-none, lists-one}
+use Rattle.geom.specs.Between.{All, Fits}
+use Rattle.geom.proofs.Lists.{sameList-same, sameList-other}
+use Rattle.geom.proofs.Sums.{lists-add, lists-none, lists-one}
 use Rattle.geom.proofs.Spread.{only, spread-add, spread-zero}
 
 -- a list that can be a face after the pass

@@ -22,7 +22,8 @@ use Rattle.geom.specs.Refusals.{goodFlags, goodParity, goodCoordinate, g
 use Rattle.geom.specs.Memory.{areaCorners, volumeCorners, parityWord}
 use Rattle.geom.specs.File as File
 use Rattle.geom.specs.File.{Read, read, stop, Reader, andThen, wordBytes, vertexBytes, elementBytes, curveBytes, listBytes, kindByte, fileOf}
-use Rattle.geom.proofs.Lists.{All, below-number}
+use Rattle.geom.specs.Between.{All}
+use Rattle.geom.proofs.Lists.{below-number}
 use Rattle.geom.proofs.Within.{Within}
 use Rattle.geom.proofs.Back.{Stepped}
 

@@ -16,7 +16,8 @@ use Rattle.geom.specs.Answers.{accepted, firstDue}
 use Rattle.geom.specs.Memory.{Bench, CurveRow, StepRow, firstOf, elementRow, elementOf, stepRow, rowsOf, cells, curvesOf, stepWords, meshOf, areaCorners, volumeCorners, parityOf, parityWord}
 use Rattle.geom.specs.Refusals.{curveLengths, goodCurve, handedIn}
 use Rattle.geom.specs.File.{wordBytes, vertexBytes, elementBytes, curveBytes, listBytes, fileOf, fileLength}
-use Rattle.geom.proofs.Lists.{All, all-of-map, all-each}
+use Rattle.geom.specs.Between.{All}
+use Rattle.geom.proofs.Lists.{all-of-map, all-each}
 use Rattle.geom.proofs.Rows.{length-firstOf}
 use Rattle.geom.proofs.Accepted.{all-firstOf, row-long}
 use Rattle.geom.proofs.Back.{Stepped}

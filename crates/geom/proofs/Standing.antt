@@ -17,7 +17,8 @@ use Rattle.geom.specs.Mesh.{MeshIn, curveVertices, sizesOf}
 use Rattle.geom.specs.Memory.{BenchIn, RowsIn, StepRow, ElementRow, areaCorners, volumeCorners, cells, firstOf, vertexRowIn, elementRow, curveRow, stepRow, rowsOf, stepWords, curveParts, parityWord, meshOf, elementWords, curveWords, vertexWords, benchOf, over}
 use Rattle.geom.specs.Refinement.{within}
 use Rattle.geom.specs.Refusals.{every, goodFlags, goodParity, curveLengths, countsHold, marksHold, StandsFor}
-use Rattle.geom.proofs.Lists.{All, eqb-same}
+use Rattle.geom.specs.Between.{All}
+use Rattle.geom.proofs.Lists.{eqb-same}
 use Rattle.geom.proofs.Back.{elementRowOf, element-rows-back, elements-own, points-back, vertices-back, curveRowOf, curve-rows-back, stepRows, ownSteps, length-stepRows, steps-back, Stepped, curves-own, lengths-own}
 
 -- ---- words over a bench
@@ -30,6 +31,9 @@ pub record Begins {A : Type 0} (words front : List A) : Type 0 where
 pub over-begins : {A : Type 0} (old out : List A) {words : List A} → words ≡ over old out → Begins words out
 unfolding over
 over-begins old out e = record { rest = drop (length out) old; is = e }
+
+pub begins-take : {A : Type 0} {words front : List A} → Begins words front → take (length front) words ≡ front
+begins-take {front = front} b = ap (take (length front)) (b .is) ∙ take-at front (b .rest) (length front) refl
 
 -- the slices of a bench begin with the words of a mesh
 pub record Laid {F : Form} (m : MeshIn F) (b : BenchIn F) : Type 0 where

@@ -20,7 +20,8 @@ use Rattle.numbers.proofs.Small.{Small, least-or-equal, Cap, cap-whole, small-a
 use Rattle.geom.specs.Floats.{goodCoordinate, binary32, points4, columnRule, cubeRule, LINE-WEIGHTS}
 use Rattle.geom.specs.Refusals.{goodPositionIn}
 use Rattle.geom.specs.Soundness.{Axis, x-axis, y-axis, z-axis, w-axis, on}
-use Rattle.geom.proofs.Lists.{All, all-map, all-take, all-drop, true-is}
+use Rattle.geom.specs.Between.{All}
+use Rattle.geom.proofs.Lists.{all-map, all-take, all-drop, true-is}
 use Rattle.geom.proofs.Steady.{GoodAt, Gives, Steady}
 
 -- ---- four axes

@@ -15,11 +15,11 @@ use Rattle.geom.specs.Form.{Form}
 use Rattle.geom.specs.Vertices.{positionIn, midpointIn, pairIn}
 use Rattle.geom.specs.Mesh.{MeshIn}
 use Rattle.geom.specs.Smoothing.{withMidpointsIn, GatheredIn, nothing, ignored, update, toCorners, gather, gatheredIn, replaced, movedIn, settledIn, settledFromIn, smoothedIn}
-use Rattle.geom.specs.Refinement.{StateIn, passOver, stateAfter}
+use Rattle.geom.specs.Refinement.{StateIn, passOver, stateAfter, went}
 use Rattle.geom.specs.Refusals.{goodPositionIn}
 use Rattle.geom.specs.Soundness.{Axis, on}
-use Rattle.geom.proofs.Lists.{All, all-append, all-of-map, all-each, and-true-left, and-true-right}
-use Rattle.geom.proofs.Left.{went}
+use Rattle.geom.specs.Between.{All}
+use Rattle.geom.proofs.Lists.{all-append, all-of-map, all-each, and-true-left, and-true-right}
 
 -- a point that passes refusal 6's test
 abbrev pub GoodAt : (F : Form) → F .Point → Type 0

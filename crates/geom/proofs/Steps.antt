@@ -12,12 +12,12 @@ use Rattle.geom.specs.Elements.{Element, Lists, pairsOf, assemble}
 use Rattle.geom.specs.Rules.{divide, Went, passBy}
 use Rattle.geom.specs.Passes.{pass, passes}
 use Rattle.geom.specs.Ledger.{Ledger, spread, faceTable, volumeShape, faceShape, faces, ledger, refine, refined}
-use Rattle.geom.proofs.Lists.{All}
+use Rattle.geom.specs.Between.{areaRule, volumeRule, All, IsArea, IsVolume, Well, Good}
 use Rattle.geom.proofs.Books.{Grown, grown-trans}
 use Rattle.geom.proofs.Spread.{ledger-append}
 use Rattle.geom.proofs.Refining.{refine-add, refine-zero, refine-faces}
 use Rattle.geom.proofs.Cells.{sized-faces, cell}
-use Rattle.geom.proofs.Well.{IsArea, IsVolume, grown-volumes, volume-over, Well, below-more, some-below, pieces-proper, some-volume, areaRule, volumeRule, pass-is, Good, afterCurves, curves-grow, pass-longer, pass-good}
+use Rattle.geom.proofs.Well.{grown-volumes, volume-over, below-more, some-below, pieces-proper, some-volume, pass-is, afterCurves, curves-grow, pass-longer, pass-good}
 
 -- the faces of a volume of vertices are lists that the refinement sums over
 faces-fit :

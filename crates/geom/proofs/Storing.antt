@@ -19,8 +19,9 @@ use Rattle.geom.specs.Memory.{Bench, cells, ElementRow, CurveRow, StepRo
 use Rattle.geom.specs.Refinement.{LIMITS, within}
 use Rattle.geom.specs.Refusals.{every, goodFlags, goodParity, goodCoordinate, goodPosition, goodPositionIn, goodNumber, goodCurve, curveLengths, countsHold, marksHold, positionsHold, numbersHold, handedIn}
 use Rattle.geom.specs.File.{fileOf, figure, read}
+use Rattle.geom.specs.Between.{All}
 use Rattle.geom.proofs.Rows.{length-firstOf}
-use Rattle.geom.proofs.Lists.{All, all-map, all-of-map, all-take, all-drop, true-is, and-true-left, and-true-right}
+use Rattle.geom.proofs.Lists.{all-map, all-of-map, all-take, all-drop, true-is, and-true-left, and-true-right}
 use Rattle.geom.proofs.Within.{Within, within-facts}
 use Rattle.geom.proofs.Stated.{sizes-stated}
 use Rattle.geom.proofs.Accepted.{none-due, holds, every-holds, all-firstOf, all-both, row-long, numbers as numbers-judged, vertex-count}

@@ -6,15 +6,9 @@ use Prim.Native.Nat.{ℕ, zero, suc, _<_}
 use native.Mathlib.Omega.{arith}
 use native.Mathlib.Decide.{ℕ-discrete}
 use lib.IntN.{ℤ, pos, _+ℤ_, +ℤ-idl, +ℤ-idr}
-use lib.ListN.{length}
 use Rattle.geom.specs.Ledger.{sumBelow, sumLists}
-use Rattle.geom.proofs.Lists.{All}
+use Rattle.geom.specs.Between.{Fits}
 use Rattle.geom.proofs.Integers.{regroup}
-
--- k numbers below n
-pub record Fits (n k : ℕ) (c : List ℕ) : Type 0 where
-  pub long : length c ≡ k
-  pub below : All (λ (x : ℕ). x < n) c
 
 below-add : (n : ℕ) (f g : ℕ → ℤ) → sumBelow n (λ (i : ℕ). f i +ℤ g i) ≡ sumBelow n f +ℤ sumBelow n g
 unfolding sumBelow

@@ -21,7 +21,8 @@ use Rattle.geom.specs.Refusals.{goodFlags, goodParity, goodCoordinate, g
 use Rattle.geom.specs.Memory.{areaCorners, volumeCorners, parityOf, parityWord}
 use Rattle.geom.specs.File as File
 use Rattle.geom.specs.File.{Read, read, stop, Reader, andThen, _>>=_, done, judged, several, wordBytes, vertexBytes, elementBytes, curveBytes, listBytes, kindByte, fileOf, Figure}
-use Rattle.geom.proofs.Lists.{All, same-number}
+use Rattle.geom.specs.Between.{All}
+use Rattle.geom.proofs.Lists.{same-number}
 use Rattle.geom.proofs.Reread.{body}
 
 abbrev pub Bytes : List ℕ → Type 0

@@ -11,38 +11,16 @@ use Rattle.geom.specs.declared.parity.Parity.{Parity}
 use Rattle.geom.specs.declared.parity.Parity.the-variants.{Even, Odd}
 use Rattle.geom.specs.Parity.{times}
 use Rattle.geom.specs.Book.{Kind, cubes, simplices, Pair, pair, Book, Found, found, none, seek, midpoint, Made, each, mids}
-use Rattle.geom.specs.Elements.{Element, Curve, Lists, Row, Shape, pointAt, pick, pairsOf, flat, unless, pieces, assemble}
+use Rattle.geom.specs.Elements.{Element, Curve, Row, Shape, pointAt, pick, pairsOf, flat, unless, pieces, assemble}
 use Rattle.geom.specs.Rules.{LINE-PIECES, lineEnds, linePieces, line, divide, steps, between, curveFrom, curve, Went, passBy}
 use Rattle.geom.specs.Simplices.{triangle, tetrahedron, simplexPass}
 use Rattle.geom.specs.Cubes.{SQUARE-AXES, diagonal, noSquare, square, cube, cubePass}
 use Rattle.geom.specs.Passes.{pass}
 use Rattle.geom.specs.Ledger.{faceShape, volumeShape}
-use Rattle.geom.proofs.Lists.{All, all-map, all-append, all-of-map, all-each, all-at}
-use Rattle.geom.proofs.Sums.{Fits}
-use Rattle.geom.proofs.Books.{Low, Rising, Grown, grown-same, grown-length, grown-trans, grown-entry, grown-each, grown-mids, Known, known, seek-over, Over, mids-over, midpoint-below}
+use Rattle.geom.specs.Between.{areaRule, volumeRule, All, Below, Fits, Proper, IsArea, IsVolume, Low, Good}
+use Rattle.geom.proofs.Lists.{all-map, all-append, all-of-map, all-each, all-at}
+use Rattle.geom.proofs.Books.{Grown, grown-same, grown-length, grown-trans, grown-entry, grown-each, grown-mids, Known, known, seek-over, Over, mids-over, midpoint-below}
 use Rattle.geom.proofs.Cells.{Sized, length-pick, sized-pieces}
-
--- numbers below n
-abbrev pub Below : ℕ → List ℕ → Type 0
-Below n = All (λ (x : ℕ). x < n)
-
--- an element with k corners, all below n
-abbrev pub Proper : ℕ → ℕ → Element → Type 0
-Proper n k e = Fits n k (e .corners)
-
--- an area and a volume of the kind
-abbrev pub IsArea : Kind → ℕ → Element → Type 0
-IsArea kind n = Proper n (faceShape kind .count)
-
-abbrev pub IsVolume : Kind → ℕ → Element → Type 0
-IsVolume kind n = Proper n (volumeShape kind .count)
-
--- Every vertex number is below the count n, and every element has its kind's number of corners.
-pub record Well (kind : Kind) (n : ℕ) (l : Lists) : Type 0 where
-  pub lines : All (Proper n 2) (l .lines)
-  pub areas : All (IsArea kind n) (l .areas)
-  pub volumes : All (IsVolume kind n) (l .volumes)
-  pub curves : All (λ (c : Curve). Below n (c .vertices)) (l .curves)
 
 -- ── numbers below a count ──
 
@@ -236,10 +214,6 @@ module _ (kind : Kind) (base m : ℕ) where
 
 -- ── the kinds' areas and volumes ──
 
-abbrev pub areaRule : Kind → ℕ → Book → Element → Made Element
-areaRule cubes = square
-areaRule simplices = triangle
-
 some-face : (kind : Kind) → zero < faceShape kind .count
 some-face cubes = omega arith
 some-face simplices = omega arith
@@ -296,10 +270,6 @@ area-makes cubes base m later h book e f g = go (eqb (pointAt (e .corners) 0) (p
 
 -- ── a pass ──
 
--- the rule of a volume
-abbrev pub volumeRule : Kind → ℕ → Book → Element → Made Element
-volumeRule kind = divide kind (volumeShape kind)
-
 volume-grows : (kind : Kind) (base m : ℕ) (book : Book) (e : Element) → IsVolume kind m e → Grown base m book (volumeRule kind base book e .book)
 volume-grows kind base m = divide-grows kind base m (volumeShape kind) (some-volume kind)
 
@@ -318,11 +288,6 @@ pub pass-is : (kind : Kind) (base : ℕ) (w : Went) → pass kind base w ≡ pas
 unfolding cubePass simplexPass cube tetrahedron
 pass-is cubes base w = refl
 pass-is simplices base w = refl
-
--- what holds between passes
-pub record Good (kind : Kind) (base : ℕ) (w : Went) : Type 0 where
-  pub rising : Rising base (w .book)
-  pub well : Well kind (base + length (w .book)) (w .lists)
 
 -- the book after lines, after areas, after volumes and after curves
 module _ (kind : Kind) (base : ℕ) (w : Went) where

@@ -1,10 +1,11 @@
 -- Document 01, refusals: what an entry's answer says. For each case of the enums `Ended` and `Opened` this gives the paper's number, or none,
--- and the kind.
+-- and the kind. The enums that are answers inside a pass stand for an `Ending`, by a definition beside each.
 -- Says nothing of when a number is due (Refinement, Refusals, File).
 -- Assumes nothing.
-use mathlib.Core.Bool.{Bool, cond}
+use mathlib.Core.Bool.{Bool, true, false, cond}
 use mathlib.Core.List.{List, [], _∷_}
 use Prim.Native.Nat.{ℕ}
+use lib.Dec.{eqb}
 use Rattle.geom.specs.declared.answer.Sizes.{Sizes}
 use Rattle.geom.specs.declared.answer.Ended.{Ended}
 use Rattle.geom.specs.declared.answer.Ended.the-variants.{Finished, Refused}
@@ -59,6 +60,27 @@ pub record Opening : Type 0 where
 
 unfoldable pub openingOf : Reading → Opening
 openingOf r = record { sizes = r .sizes; judgement = judgementOf (r .opened) }
+
+-- ---- parts of a pass
+
+-- how a part of a pass ends: with its values, or refused with its number
+pub data Ending (A : Type 0) : Type 0 where
+  whole : A → Ending A
+  stopped : ℕ → Ending A
+
+-- the values where all of it fits, and else refusal 10
+abbrev pub fitted : {A : Type 0} → Bool → A → Ending A
+fitted true values = whole values
+fitted false values = stopped 10
+
+-- a promise on an ending: P of its values, or that the refusal is 10 and Q, what doesn't fit
+abbrev pub Stops : Type 0 → Bool → Type 0
+Stops Q true = Q
+Stops Q false = ⊥
+
+abbrev pub EndsWith : {A : Type 0} → (A → Type 0) → Type 0 → Ending A → Type 0
+EndsWith P Q (whole values) = P values
+EndsWith P Q (stopped n) = Stops Q (eqb n 10)
 
 -- one refusal, and whether it is due
 pub record Due : Type 0 where

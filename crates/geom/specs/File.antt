@@ -244,10 +244,6 @@ figure lent = do
 
 -- ---- the entry
 
--- For a file 9 comes first: a list's two benches are unequal. The kind isn't known then, so it is judged for both.
-unfoldable pub benchesMatch : Bench → Bench → Bool
-benchesMatch first second = benchesEqual cubes first second && benchesEqual simplices first second
-
 -- what the answer says, and the first bench afterwards; the second is never written
 pub record Loaded : Type 0 where
   pub opening : Opening
@@ -280,8 +276,8 @@ loadedBy bench (read f bytes) =
       bench = benchOver bench (benchOf (f .mesh));
     }
 
--- The whole of it: refused, and nothing changes; or the mesh on the first bench.
+-- The whole of it: refused, and nothing changes; or the mesh on the first bench. 9 comes first: a list's two benches are unequal.
 unfoldable pub loaded : Bench → Bench → List ℕ → Loaded
 loaded first second bytes =
     let judgement = figure (λ (kind : Kind). cells kind first) bytes in
-    loadedBy first (cond (benchesMatch first second) judgement (stop 9))
+    loadedBy first (cond (benchesEqual first second) judgement (stop 9))

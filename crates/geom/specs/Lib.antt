@@ -8,6 +8,7 @@ pub mod Simplices
 pub mod Cubes
 pub mod Passes
 pub mod Ledger
+pub mod Between
 -- the vertex rules, and the refinement of a whole mesh,
 pub mod Form
 pub mod Floats

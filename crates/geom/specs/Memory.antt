@@ -1,7 +1,7 @@
 -- Document 01, 'Forms of the Rust that cannot cross' and the refusals: a mesh in memory, as lent words and the counts that the caller states.
 -- A cell of a list is a row of words: a vertex is four floats, and flags, tag and k; a point a vertex number; an element its vertex numbers, then its
 -- parity; a curve its tag and vertex count; a curve vertex its number, then the parity of the step to the next. The word beside a curve's
--- last vertex belongs to no step: it is never judged and never read.
+-- last vertex belongs to no step: it is never judged and never read; a pass and a file write 0 there.
 -- Says nothing of which words are accepted (Refusals). The book's and smoothing's words have no meaning here beyond their number.
 -- Assumes nothing.
 use mathlib.Core.List.{List, [], _∷_, _++_, map, flatMap}

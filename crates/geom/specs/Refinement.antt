@@ -9,6 +9,7 @@ use lib.Dec.{leb}
 use lib.ListN.{length, drop}
 use Rattle.geom.specs.declared.answer.Sizes.{Sizes}
 use Rattle.geom.specs.Book.{Kind, Book}
+use Rattle.geom.specs.Rules.{Went}
 use Rattle.geom.specs.Passes.{pass}
 use Rattle.geom.specs.Answers.{Verdict, accepted, refused, Told}
 use Rattle.geom.specs.Form.{Form}
@@ -24,19 +25,23 @@ pub record StateIn (F : Form) : Type 0 where
 abbrev pub State : Type 0
 State = StateIn binary32
 
+-- the lists and the book of a state
+abbrev pub went : {F : Form} → StateIn F → Went
+went s = record { lists = s .mesh .lists; book = s .book }
+
 -- One pass over a whole mesh: the lists are replaced, points stay. `base` is the vertex count handed in.
 unfoldable pub passOver : {F : Form} → Kind → Bool → ℕ → StateIn F → StateIn F
 passOver {F} kind time base s =
-    let went = pass kind base (record { lists = s .mesh .lists; book = s .book }) in
-    let vertices = withMidpointsIn F (s .mesh .vertices) (drop (length (s .book)) (went .book)) in
+    let after = pass kind base (went s) in
+    let vertices = withMidpointsIn F (s .mesh .vertices) (drop (length (s .book)) (after .book)) in
     record {
       mesh =
           record {
-            vertices = smoothedIn F kind time (went .lists) vertices;
+            vertices = smoothedIn F kind time (after .lists) vertices;
             points = s .mesh .points;
-            lists = went .lists;
+            lists = after .lists;
           };
-      book = went .book;
+      book = after .book;
     }
 
 -- the mesh handed in, with the book empty

@@ -4,9 +4,9 @@
 use mathlib.Core.Path.{_≡_}
 use mathlib.Core.Bool.{Bool, true, cond, not, _&&_}
 use mathlib.Core.List.{List, [], _∷_}
-use Prim.Native.Nat.{ℕ, _+_, _/_, _%_, min}
+use Prim.Native.Nat.{ℕ, zero, suc, _+_, _/_, _%_}
 use lib.Dec.{eqb, leb, ltb}
-use lib.ListN.{length}
+use lib.ListN.{length, take}
 use Rattle.numbers.specs.declared.vec4.Vec4.{Vec4}
 use Rattle.geom.specs.declared.answer.Sizes.{Sizes}
 use Rattle.geom.specs.Book.{Kind}
@@ -16,7 +16,7 @@ use Rattle.geom.specs.Floats.{binary32}
 unfoldable pub use Rattle.geom.specs.Floats.{goodCoordinate}
 use Rattle.geom.specs.Mesh.{MeshIn, sizesOf}
 use Rattle.geom.specs.Refinement.{LIMITS, Lent, within, RunIn, run, toldBy}
-use Rattle.geom.specs.Memory.{BenchIn, cells, ElementRow, CurveRow, StepRow, RowsIn, rowsOf, stepWords, curveParts, meshOf}
+use Rattle.geom.specs.Memory.{BenchIn, cells, ElementRow, CurveRow, StepRow, RowsIn, rowsOf, stepWords, curveParts, meshOf, vertexWords}
 
 -- ---- each test
 
@@ -99,7 +99,7 @@ handedIn nine five kind s b =
 pub record DeskIn (F : Form) : Type 0 where
   pub first : BenchIn F
   pub second : BenchIn F
-  -- 4 words a cell
+  -- BOOK-WORDS words a cell
   pub book : List ℕ
   -- smoothing: 4 words a cell for the sum, 2 for count and touch
   pub sums : List (F .Cell)
@@ -108,16 +108,25 @@ pub record DeskIn (F : Form) : Type 0 where
 abbrev pub Desk : Type 0
 Desk = DeskIn binary32
 
--- a list's two benches are equal: as many lent cells
-unfoldable pub benchesEqual : {F : Form} → Kind → BenchIn F → BenchIn F → Bool
-benchesEqual kind first second =
-    within (cells kind first) (cells kind second) && within (cells kind second) (cells kind first)
+-- a list's two benches are equal: its slices are as long on both, whatever the kind, in memory as for a file
+unfoldable pub benchesEqual : {F : Form} → BenchIn F → BenchIn F → Bool
+benchesEqual first second =
+    eqb (length (first .positions)) (length (second .positions))
+    && eqb (length (first .marks)) (length (second .marks))
+    && eqb (length (first .points)) (length (second .points))
+    && eqb (length (first .lines)) (length (second .lines))
+    && eqb (length (first .areas)) (length (second .areas))
+    && eqb (length (first .volumes)) (length (second .volumes))
+    && eqb (length (first .curves)) (length (second .curves))
+    && eqb (length (first .curveVertices)) (length (second .curveVertices))
 
--- the benches are equal, and smoothing's cells are as long as the vertex benches
+-- the benches are equal, and smoothing's cells, of the sums as of the tallies, are as many as the vertices'
 unfoldable pub benchesHold : {F : Form} → Kind → DeskIn F → Bool
 benchesHold kind d =
-    benchesEqual kind (d .first) (d .second)
-    && eqb (min (length (d .sums) / 4) (length (d .tallies) / 2)) (cells kind (d .first) .vertices)
+    let vertices = cells kind (d .first) .vertices in
+    benchesEqual (d .first) (d .second)
+    && eqb (length (d .sums) / 4) vertices
+    && eqb (length (d .tallies) / 2) vertices
 
 -- the words of a cell of the book
 abbrev pub BOOK-WORDS : ℕ
@@ -157,13 +166,25 @@ unfoldable pub side : {A : Type 0} → ℕ → A → A → A
 side passes first second = cond (eqb (passes % 2) 0) first second
 
 -- The words on a bench are a mesh: counts and marks are in order, and the rows stand for it. This fixes every word of every entry but the one
--- beside a curve's last vertex.
+-- beside a curve's last vertex, which belongs to no step.
 unfoldable pub StandsFor : {F : Form} → Kind → BenchIn F → MeshIn F → Type 0
 StandsFor kind b m =
     let s = sizesOf m in
     (countsHold kind s b ≡ true) × (marksHold (rowsOf kind s b) ≡ true) × (meshOf (rowsOf kind s b) ≡ m)
 
--- What is lent, afterwards: as it was, or with the mesh left on the bench that the last whole pass wrote and the other cells free.
+-- That word after a pass: the curve vertices of a mesh are words as `vertexWords` has them, with 0 beside a curve's last.
+unfoldable pub StepsWritten : {F : Form} → BenchIn F → MeshIn F → Type 0
+StepsWritten b m = take (length (vertexWords (m .lists .curves))) (b .curveVertices) ≡ vertexWords (m .lists .curves)
+
+-- and by the number of whole passes: without one the bench is as it was, word for word
+abbrev pub LastSteps : {F : Form} → ℕ → BenchIn F → BenchIn F → MeshIn F → Type 0
+LastSteps zero before b m = b ≡ before
+LastSteps (suc n) before b m = StepsWritten b m
+
+-- What is lent, afterwards: as it was, or with the mesh left on the bench that the last whole pass wrote and the other cells free. So every word of every
+-- entry that is handed back is fixed.
 unfoldable pub Leaves : {F : Form} → Kind → SubdividedIn F → DeskIn F → DeskIn F → Type 0
 Leaves kind (unchanged n) before after = after ≡ before
-Leaves kind (ran r) before after = StandsFor kind (side (r .passes) (after .first) (after .second)) (r .left .mesh)
+Leaves kind (ran r) before after =
+    let left = side (r .passes) (after .first) (after .second) in
+    StandsFor kind left (r .left .mesh) × LastSteps (r .passes) (before .first) left (r .left .mesh)

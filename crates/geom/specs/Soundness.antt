@@ -2,7 +2,7 @@
 -- lies between its ends on the axes that both have flagged, tag and k are those of one vertex handed in, no line has equal ends, no coordinate leaves its range,
 -- and the mesh that is left is accepted again.
 -- Says nothing of where smoothing puts a vertex on the other axes (Smoothing).
--- Assumes nothing. All of it is claimed of accepted meshes; the cases of Marked have one in memory, and section 8's example.
+-- Assumes nothing. All of it is claimed of accepted meshes; the cases of Marked have one of each kind.
 use mathlib.Core.Path.{_≡_}
 use mathlib.Core.Bool.{Bool, true, false, not}
 use mathlib.Core.List.{List}

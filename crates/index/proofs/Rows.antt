@@ -8,7 +8,7 @@ use native.Mathlib.Omega.{arith}
 use native.Mathlib.Nat.{mul-comm, mul-suc, add-mul, mul-div-le, mul-le-mul-left, eq-or-lt-of-le}
 use native.Mathlib.Decide.{decLe}
 use lib.Count.{leadingZeros}
-use lib.ListN.{length, getD}
+use lib.ListN.{length}
 use Rattle.index.specs.Cells.{Layout, Sound, wordAt, cells, wordsFrom, circled, bucketOf, pairsBeside}
 
 -- ── places ──

@@ -4,7 +4,7 @@
 -- Says nothing of what the words of a row without an entry are, nor of the two words of a bucket without one, nor of the words beside.
 -- Assumes nothing.
 use mathlib.Core.List.{List, [], _∷_, _++_}
-use Prim.Native.Nat.{ℕ, zero, suc, _+_, _*_, _/_, _%_, _^_, _<_, _≤_, min}
+use Prim.Native.Nat.{ℕ, zero, suc, _+_, _*_, _/_, _%_, _^_, _≤_, min}
 use lib.Count.{leadingZeros}
 use lib.ListN.{length, getD}
 

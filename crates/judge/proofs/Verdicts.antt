@@ -21,7 +21,7 @@ use Rattle.geom.proofs.Within.{Within, within-facts}
 use Rattle.geom.proofs.Lists.{and-true-left, and-true-right}
 use Rattle.judge.specs.declared.counts.Lengths.{Lengths}
 use Rattle.judge.specs.Words.{Elements}
-use Rattle.judge.specs.Counts.{lengthsOf, cellsOf, benchesOf}
+use Rattle.judge.specs.Counts.{lengthsOf, cellsOf, equalOf, benchesOf}
 use Rattle.judge.specs.Judged.{Measured, Listed, Marked, Numbered}
 
 area-eight : (kind : Kind) → areaCorners kind ≤ 8
@@ -131,29 +131,13 @@ module _ {F : Form} (kind : Kind) (s : Sizes) (b : BenchIn F) (e : countsHold ki
 -- ---- equal benches
 
 benches-lengths : {F : Form} (kind : Kind) (d : DeskIn F) → benchesHold kind d ≡ benchesOf kind (lengthsOf (d .first)) (lengthsOf (d .second)) (length (d .sums)) (length (d .tallies))
-unfolding benchesEqual benchesHold benchesOf cells cellsOf
+unfolding benchesEqual benchesHold equalOf benchesOf cells cellsOf
 benches-lengths kind d = refl
 
-module _ (kind : Kind) (first second : Lengths) (sums tallies : ℕ) (here there : Sizes) (e : here ≡ cellsOf kind first) (f : there ≡ cellsOf kind second)
-    (r : Bool) (p : r ≡ within here there) where
-  test : within (cellsOf kind first) (cellsOf kind second) ≡ r
-  test = sym (p ∙ ap₂ within e f)
-
-  pub benches-one : r ≡ false → false ≡ benchesOf kind first second sums tallies
-  unfolding benchesOf
-  benches-one q = rw (test, q) refl
-
-  module _ (q : r ≡ true) (r′ : Bool) (p′ : r′ ≡ within there here) where
-    back : within (cellsOf kind second) (cellsOf kind first) ≡ r′
-    back = sym (p′ ∙ ap₂ within f e)
-
-    pub benches-two : r′ ≡ false → false ≡ benchesOf kind first second sums tallies
-    unfolding benchesOf
-    benches-two z = rw (test, q, back, z) refl
-
-    pub benches-all : r′ ≡ true → (m : ℕ) → m ≡ min (sums / 4) (tallies / 2) → eqb m (here .vertices) ≡ benchesOf kind first second sums tallies
-    unfolding benchesOf
-    benches-all z m h = rw (test, q, back, z, h, e) refl
+pub benches-are : (kind : Kind) (first second : Lengths) (sums tallies : ℕ) (equal : Bool) (lent : Sizes) → equal ≡ equalOf first second → lent ≡ cellsOf kind first
+    → (equal && eqb (sums / 4) (lent .vertices) && eqb (tallies / 2) (lent .vertices)) ≡ benchesOf kind first second sums tallies
+unfolding benchesOf
+benches-are kind first second sums tallies equal lent e l = rw (e, l) refl
 
 -- the verdict of a desk, from what the judge is told of it
 pub told : {F : Form} (kind : Kind) (s : Sizes) (time : ℕ) (first : BenchIn F) (second : Lengths) (sums tallies : ℕ) (nine : Bool)

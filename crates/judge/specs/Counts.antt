@@ -9,7 +9,6 @@ use Rattle.geom.specs.declared.answer.Sizes.{Sizes}
 use Rattle.geom.specs.Book as Book
 use Rattle.geom.specs.Form.{Form}
 use Rattle.geom.specs.Memory.{BenchIn, areaCorners, volumeCorners}
-use Rattle.geom.specs.Refinement.{within}
 use Rattle.judge.specs.declared.counts.Lengths.{Lengths}
 
 -- the lengths of a bench's slices
@@ -39,9 +38,20 @@ cellsOf kind l =
       «curve_vertices» = l .«curve_vertices» / 2;
     }
 
--- a list's two benches are equal, and smoothing's cells are as long as the vertex benches
+-- a list's two benches are equal: its slices are as long on both
+unfoldable pub equalOf : Lengths → Lengths → Bool
+equalOf first second =
+    eqb (first .positions) (second .positions)
+    && eqb (first .marks) (second .marks)
+    && eqb (first .points) (second .points)
+    && eqb (first .lines) (second .lines)
+    && eqb (first .areas) (second .areas)
+    && eqb (first .volumes) (second .volumes)
+    && eqb (first .curves) (second .curves)
+    && eqb (first .«curve_vertices») (second .«curve_vertices»)
+
+-- and smoothing's cells, of the sums as of the tallies, are as many as the vertices'
 unfoldable pub benchesOf : Book.Kind → Lengths → Lengths → ℕ → ℕ → Bool
 benchesOf kind first second sums tallies =
-    within (cellsOf kind first) (cellsOf kind second)
-    && within (cellsOf kind second) (cellsOf kind first)
-    && eqb (min (sums / 4) (tallies / 2)) (cellsOf kind first .vertices)
+    let vertices = cellsOf kind first .vertices in
+    equalOf first second && eqb (sums / 4) vertices && eqb (tallies / 2) vertices

@@ -4,7 +4,7 @@ ghost use Prim.Native.Nat.{min};
 ghost use Rattle.geom.specs.Kinds.{kindOf};
 ghost use Rattle.geom.specs.Memory.{areaCorners, volumeCorners};
 ghost use Rattle.geom.specs.Refinement as Refinement;
-ghost use Rattle.judge.specs.Counts.{cellsOf, benchesOf};
+ghost use Rattle.judge.specs.Counts.{cellsOf, equalOf, benchesOf};
 use geom::answer::Sizes;
 use geom::kind::Kind;
 
@@ -112,7 +112,21 @@ pub fn limits_hold(s: Sizes) -> bool
     within(s, limits)
 }
 
-// 9: a list's two benches are equal, and smoothing's cells are as long as the vertex benches.
+// 9: a list's two benches are equal, slices of equal lengths, whatever the kind.
+pub fn benches_equal(first: Lengths, second: Lengths) -> bool
+    ensures { λ r. ⌜ r ≡ equalOf first second ⌝ }
+{
+    (first.positions == second.positions)
+        & (first.marks == second.marks)
+        & (first.points == second.points)
+        & (first.lines == second.lines)
+        & (first.areas == second.areas)
+        & (first.volumes == second.volumes)
+        & (first.curves == second.curves)
+        & (first.curve_vertices == second.curve_vertices)
+}
+
+// 9: and smoothing's cells, of the sums as of the tallies, are as many as the vertices'.
 pub fn benches_hold(
     kind: Kind,
     first: Lengths,
@@ -122,13 +136,7 @@ pub fn benches_hold(
 ) -> bool
     ensures { λ r. ⌜ r ≡ benchesOf (kindOf kind) first second sums tallies ⌝ }
 {
-    let here = cells(kind, first);
-    let there = cells(kind, second);
-    if !within(here, there) {
-        return false;
-    }
-    if !within(there, here) {
-        return false;
-    }
-    smaller(sums / 4, tallies / 2) == here.vertices
+    let equal = benches_equal(first, second);
+    let lent = cells(kind, first);
+    equal & (sums / 4 == lent.vertices) & (tallies / 2 == lent.vertices)
 }

@@ -22,8 +22,9 @@ use Rattle.geom.specs.Mesh.{curveVertices}
 use Rattle.geom.specs.Memory.{firstOf, stepRow, curveRow, curvesOf}
 use Rattle.geom.specs.Elements as Elements
 use Rattle.geom.specs.Refusals.{curveLengths}
+use Rattle.geom.specs.Between.{areaRule, volumeRule}
 use Rattle.book.specs.Cells.{pairsOf}
-use Rattle.geom.proofs.Well.{areaRule, volumeRule, pass-is}
+use Rattle.geom.proofs.Well.{pass-is}
 use Rattle.division.specs.Writing.{Listed}
 use Rattle.division.specs.Threads.{curvesIn, Wound}
 use Rattle.division.proofs.Folds.{mids-grows, each-grows}

@@ -7,6 +7,7 @@ use mathlib.Core.List.{List, map}
 use Prim.Native.Nat.{ℕ, suc, _+_, _*_, _^_, _<_, _≤_}
 use lib.ListN.{length, getD}
 use Rattle.geom.specs.declared.answer.Sizes.{Sizes}
+use Rattle.geom.specs.Answers.{Ending, whole, stopped, EndsWith}
 use Rattle.geom.specs.Book.{Kind}
 use Rattle.geom.specs.Elements.{Lists}
 use Rattle.geom.specs.Rules.{Went}
@@ -104,6 +105,15 @@ Bursts room cells w =
     ⊎ (cells .volumes < length (w .lists .volumes))
     ⊎ (cells .«curve_vertices» < curveVertices (w .lists .curves))
 
+-- what `Stage` says: the sizes and how many entries the book has, or refusal 10
+pub record Staged : Type 0 where
+  pub sizes : Sizes
+  pub made : ℕ
+
+abbrev pub stageOf : Stage → Ending Staged
+stageOf (Whole t e) = whole (record { sizes = t; made = e })
+stageOf Full = stopped 10
+
 abbrev pub Told : ℕ → ℕ → Sizes → Sizes → Went → Slices → Slices → List ℕ → Stage → Type 0
-Told base room s cells w new after book (Whole t e) = Made base room s cells w new after book t e
-Told base room s cells w new after book Full = Bursts room cells w
+Told base room s cells w new after book r =
+    EndsWith (λ (t : Staged). Made base room s cells w new after book (t .sizes) (t .made)) (Bursts room cells w) (stageOf r)

@@ -6,7 +6,7 @@ ghost use lib.ListN.{length};
 ghost use Rattle.geom.specs.Book.{each};
 ghost use Rattle.geom.specs.Kinds.{kindOf};
 ghost use Rattle.geom.specs.Memory.{areaCorners, volumeCorners, firstOf, elementRow, elementOf, over};
-ghost use Rattle.geom.proofs.Well.{areaRule, volumeRule};
+ghost use Rattle.geom.specs.Between.{areaRule, volumeRule};
 ghost use Rattle.book.specs.Cells.{pairsOf};
 ghost use Rattle.division.specs.Writing.{Begun, Passed};
 ghost use Rattle.lists.specs.Lists.{slices, pointsOf, passed, Given, Told};

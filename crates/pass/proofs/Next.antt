@@ -9,6 +9,7 @@ use native.Mathlib.Omega.{arith}
 use lib.ListN.{length, getD, drop, length-append, length-drop, length-map}
 use Rattle.geom.specs.Form.{Form}
 use Rattle.geom.specs.declared.answer.Sizes.{Sizes}
+use Rattle.geom.specs.Answers.{fitted}
 use Rattle.geom.specs.Book.{Kind, Book, each}
 use Rattle.geom.specs.Elements.{Curve, Lists}
 use Rattle.geom.specs.Rules.{curveFrom, curve, Went, passBy}
@@ -16,14 +17,14 @@ use Rattle.geom.specs.Vertices.{pairIn}
 use Rattle.geom.specs.Smoothing.{withMidpointsIn, settledFromIn, smoothedIn}
 use Rattle.geom.specs.Mesh.{curveVertices, sizesOf}
 use Rattle.geom.specs.Memory.{BenchIn, firstOf, vertexRowIn, curveRow, stepRow, rowsOf, meshOf}
-use Rattle.geom.specs.Refinement.{StateIn, passOver, fits}
+use Rattle.geom.specs.Refinement.{StateIn, passOver, fits, went}
 use Rattle.geom.proofs.Stated.{length-rows}
-use Rattle.geom.proofs.Left.{went}
 use Rattle.geom.proofs.Books.{Grown}
 use Rattle.geom.proofs.Well.{pass-is, pass-grows}
 use Rattle.book.specs.Cells.{pairsOf}
+use Rattle.lists.specs.declared.Stage.the-variants.{Full}
 use Rattle.lists.specs.Lists.{Slices, slices, passed, Bursts}
-use Rattle.pass.specs.Benches.{stateOf, lentOf, Held, Lends}
+use Rattle.pass.specs.Benches.{stateOf, lentOf, Held, Lends, Passed}
 use Rattle.geom.proofs.Rows.{length-firstOf}
 use Rattle.pass.proofs.Fitting.{false-unless, fits-facts}
 
@@ -123,8 +124,8 @@ module _ {F : Form} (kind : Kind) (base : ℕ) (s : Sizes) (a : BenchIn F) (book
           «curve_vertices» = curveVertices (w .lists .curves);
         }
 
-    -- what bursts the bounds doesn't fit what is lent
-    pub bursts :
+    -- what bursts the bounds doesn't fit what is lent,
+    bursts :
         (time : Bool) {room : ℕ} {c : Sizes} {b : BenchIn F} {sums : List (F .Cell)} {tallies : List ℕ} → Lends kind base room c a b book sums tallies → Bursts room c w
         → fits (lentOf kind a book) (next time) ≡ false
     unfolding passOver meshOf rowsOf
@@ -147,3 +148,14 @@ module _ {F : Form} (kind : Kind) (base : ℕ) (s : Sizes) (a : BenchIn F) (book
         (λ (y : c .volumes < length (w .lists .volumes)). omega (arith, cells .volumes, limits .volumes, ap (λ (z : Sizes). z .volumes) k))
         (λ (y : c .«curve_vertices» < curveVertices (w .lists .curves)). omega (arith, cells .«curve_vertices», limits .«curve_vertices», ap (λ (z : Sizes). z .«curve_vertices») k)))))
         x)
+
+    -- and is refused by 10
+    pub passed-full :
+        (time : Bool) {room : ℕ} {c : Sizes} {b other : BenchIn F} {book′ : List ℕ} {sums : List (F .Cell)} {tallies : List ℕ} → Lends kind base room c a b book sums tallies → Bursts room c w
+        → Passed kind base (lentOf kind a book) (next time) other book′ Full
+    passed-full time l x =
+        let n = next time in
+        record {
+          answer = ap (λ (t : Bool). fitted t (record { sizes = sizesOf (n .mesh); made = length (n .book) })) (sym (bursts time l x));
+          onward = tt;
+        }

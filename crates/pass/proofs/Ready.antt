@@ -14,11 +14,10 @@ use Rattle.geom.specs.Elements.{Element}
 use Rattle.geom.specs.Form.{Form}
 use Rattle.geom.specs.Memory.{BenchIn, areaCorners, volumeCorners, cells, firstOf, curveRow, rowsOf, meshOf, parityWord, elementWords, over}
 use Rattle.geom.specs.Refusals.{curveLengths, countsHold}
-use Rattle.geom.specs.Refinement.{LIMIT, within}
-use Rattle.geom.proofs.Lists.{All, same-number, and-true-left, and-true-right}
-use Rattle.geom.proofs.Books.{Low}
-use Rattle.geom.proofs.Left.{went}
-use Rattle.geom.proofs.Well.{Proper, Good, pass-good}
+use Rattle.geom.specs.Refinement.{LIMIT, within, went}
+use Rattle.geom.specs.Between.{All, Proper, Low, Good}
+use Rattle.geom.proofs.Lists.{same-number, and-true-left, and-true-right}
+use Rattle.geom.proofs.Well.{pass-good}
 use Rattle.geom.proofs.Forming.{face-corners, volume-corners}
 use Rattle.book.specs.Cells as Book
 use Rattle.book.specs.Cells.{pairsOf, pairAt}

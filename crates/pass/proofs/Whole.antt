@@ -10,25 +10,26 @@ use lib.ListN.{length, getD, drop}
 use lib.Seq.{drop-at}
 use Rattle.geom.specs.Form.{Form}
 use Rattle.geom.specs.declared.answer.Sizes.{Sizes}
+use Rattle.geom.specs.Answers.{whole, fitted}
 use Rattle.geom.specs.Book.{Kind, Book}
 use Rattle.geom.specs.Elements.{Curve, Lists}
 use Rattle.geom.specs.Smoothing.{withMidpointsIn, smoothedIn}
 use Rattle.geom.specs.Mesh.{sizesOf}
 use Rattle.geom.specs.Memory.{BenchIn, RowsIn, areaCorners, volumeCorners, cells, firstOf, elementRow, curveRow, stepRow, elementOf, curvesOf, rowsOf, meshOf, benchOf, over}
-use Rattle.geom.specs.Refusals.{every, goodFlags, countsHold, marksHold, StandsFor}
-use Rattle.geom.specs.Refinement.{LIMITS, passOver, fits, within}
-use Rattle.geom.proofs.Left.{went}
-use Rattle.geom.proofs.Lists.{All, and-true-left, and-true-right}
+use Rattle.geom.specs.Refusals.{every, goodFlags, countsHold, marksHold, StandsFor, StepsWritten}
+use Rattle.geom.specs.Refinement.{LIMITS, passOver, fits, within, went}
+use Rattle.geom.specs.Between.{All, Good}
+use Rattle.geom.proofs.Lists.{and-true-left, and-true-right}
 use Rattle.geom.proofs.Rows.{length-firstOf, firstOf-same}
 use Rattle.geom.proofs.Back.{elements-own, curves-own}
-use Rattle.geom.proofs.Standing.{over-begins, Laid, FlaggedIn, Formed, elements-read, curves-read, steps-read, stands}
+use Rattle.geom.proofs.Standing.{over-begins, begins-take, Laid, FlaggedIn, Formed, elements-read, curves-read, steps-read, stands}
 use Rattle.geom.proofs.Forming.{rows-stepped, formed}
-use Rattle.geom.proofs.Well.{Good}
 use Rattle.book.specs.Cells.{pairsOf, pairAt}
 use Rattle.geom.proofs.Within.{Within, within-facts, within-holds}
 use Rattle.vertices.specs.Cells as Vertices
+use Rattle.lists.specs.declared.Stage.the-variants.{Whole}
 use Rattle.lists.specs.Lists.{Slices, listsOf, pointsOf, Made}
-use Rattle.pass.specs.Benches.{stateOf, lentOf, Held, Lends, Onward}
+use Rattle.pass.specs.Benches.{stateOf, lentOf, Held, Lends, Onward, Passed}
 use Rattle.pass.proofs.Fitting.{fits-holds}
 use Rattle.pass.proofs.Next.{slicesOf, next, w, olds, news, curves-stay, length-book, next-sizes}
 use Rattle.pass.proofs.Ready.{held-within, bounded, entries-are, entries-grow, next-good}
@@ -221,8 +222,8 @@ module _ {F : Form} {kind : Kind} {base room : ℕ} {s c : Sizes} {a b : BenchIn
       unfolding passOver meshOf rowsOf
       went-next = refl
 
-      pub onward : cells kind other ≡ cells kind b → Onward kind base (lentOf kind a book) (next kind base s a book made time) other book₂ t e
-      unfolding StandsFor passOver meshOf rowsOf
+      onward : cells kind other ≡ cells kind b → Onward kind base (next kind base s a book made time) other book₂ t e
+      unfolding StandsFor StepsWritten passOver meshOf rowsOf benchOf
       onward q =
           let st = standing q in
           let z = sizes-are in
@@ -240,7 +241,19 @@ module _ {F : Form} {kind : Kind} {base room : ℕ} {s c : Sizes} {a b : BenchIn
                   good = subst (Good kind base) (sym (ap went state ∙ went-next)) (next-good h l m);
                 };
             state = state;
-            fit = fit;
+            steps = begins-take (next-laid .curveVertices);
+          }
+
+      pub passed-whole : cells kind other ≡ cells kind b → Passed kind base (lentOf kind a book) (next kind base s a book made time) other book₂ (Whole t e)
+      unfolding passOver meshOf rowsOf
+      passed-whole q =
+          let n = next kind base s a book made time in
+          let entries : e ≡ length (n .book) = sym (entries-are h l m) in
+          record {
+            answer =
+                (λ i. whole (record { sizes = sizes-are i; made = entries i }))
+                ∙ ap (λ (t : Bool). fitted t (record { sizes = sizesOf (n .mesh); made = length (n .book) })) (sym fit);
+            onward = onward q;
           }
 
 -- slices that keep their lengths keep their cells

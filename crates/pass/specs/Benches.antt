@@ -2,22 +2,23 @@
 -- Says nothing of what is refused before the first pass.
 -- Assumes nothing.
 use mathlib.Core.Path.{_≡_}
-use mathlib.Core.Bool.{true, false}
+use mathlib.Core.Bool.{true}
 use mathlib.Core.List.{List}
 use Prim.Native.Nat.{ℕ, _+_, _-_, _*_, _≤_, min}
 use lib.ListN.{length}
 use Rattle.geom.specs.declared.answer.Sizes.{Sizes}
+use Rattle.geom.specs.Answers.{Ending, fitted, EndsWith}
 use Rattle.geom.specs.Book.{Kind}
 use Rattle.geom.specs.Form.{Form}
+use Rattle.geom.specs.Mesh.{sizesOf}
 use Rattle.geom.specs.Memory.{BenchIn, cells, rowsOf, meshOf}
-use Rattle.geom.specs.Refusals.{countsHold, marksHold}
-use Rattle.geom.specs.Refinement.{StateIn, Lent, LIMIT, LIMITS, within, fits}
-use Rattle.geom.proofs.Well.{Good}
-use Rattle.geom.proofs.Left.{went}
+use Rattle.geom.specs.Refusals.{countsHold, marksHold, StepsWritten}
+use Rattle.geom.specs.Refinement.{StateIn, Lent, LIMIT, LIMITS, within, fits, went}
+use Rattle.geom.specs.Between.{Good}
 use Rattle.book.specs.Cells as Book
 use Rattle.book.specs.Cells.{pairsOf, Linked}
 use Rattle.lists.specs.declared.Stage.{Stage}
-use Rattle.lists.specs.declared.Stage.the-variants.{Whole, Full}
+use Rattle.lists.specs.Lists.{Staged, stageOf}
 
 -- the state that a bench and the book's cells stand for
 abbrev pub stateOf : {F : Form} → Kind → Sizes → BenchIn F → List ℕ → ℕ → StateIn F
@@ -62,13 +63,17 @@ pub record Lends {F : Form} (kind : Kind) (base room : ℕ) (c : Sizes) (a b : B
   pub rooms : room ≡ roomOf (lentOf kind a book) base
   pub caps : c ≡ capped (cells kind a)
 
--- the bench stands for the next state, which fits
-pub record Onward {F : Form} (kind : Kind) (base : ℕ) (lent : Lent) (next : StateIn F) (b : BenchIn F) (book : List ℕ) (t : Sizes) (e : ℕ) : Type 0 where
+-- the bench stands for the next state, and the word beside a curve's last vertex is 0
+pub record Onward {F : Form} (kind : Kind) (base : ℕ) (next : StateIn F) (b : BenchIn F) (book : List ℕ) (t : Sizes) (e : ℕ) : Type 0 where
   pub held : Held kind base t b book e
   pub state : stateOf kind t b book e ≡ next
-  pub fit : fits lent next ≡ true
+  pub steps : StepsWritten b (next .mesh)
 
--- whole, or the next state doesn't fit
-abbrev pub Passed : {F : Form} → Kind → ℕ → Lent → StateIn F → BenchIn F → List ℕ → Stage → Type 0
-Passed kind base lent next b book (Whole t e) = Onward kind base lent next b book t e
-Passed kind base lent next b book Full = fits lent next ≡ false
+-- the definition's answer: the sizes and the entries of the next state where it fits what is lent, and else 10
+abbrev pub staged : {F : Form} → Lent → StateIn F → Ending Staged
+staged lent next = fitted (fits lent next) (record { sizes = sizesOf (next .mesh); made = length (next .book) })
+
+-- a pass answers that; and where it is whole, the next state stands on the bench
+pub record Passed {F : Form} (kind : Kind) (base : ℕ) (lent : Lent) (next : StateIn F) (b : BenchIn F) (book : List ℕ) (r : Stage) : Type 0 where
+  pub answer : stageOf r ≡ staged lent next
+  pub onward : EndsWith (λ (t : Staged). Onward kind base next b book (t .sizes) (t .made)) (Unit {0}) (stageOf r)

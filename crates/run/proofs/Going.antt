@@ -1,7 +1,7 @@
 -- The loop of a run over two benches: even passes go from the first to the second, odd ones back.
 -- Assumes nothing.
 use mathlib.Core.Path.{_≡_, refl, sym, _∙_, ap, subst}
-use mathlib.Core.Bool.{Bool, false, cond}
+use mathlib.Core.Bool.{Bool, cond}
 use mathlib.Core.Logic.{_⊎_, inl, inr, ⊎-elim}
 use mathlib.Core.List.{List}
 use Prim.Native.Nat.{ℕ, zero, suc, _+_, _-_, _%_, _≤_, _<_}
@@ -14,10 +14,12 @@ use Rattle.geom.specs.Answers.{accepted, refused, told}
 use Rattle.geom.specs.Book.{Kind}
 use Rattle.geom.specs.Form.{Form}
 use Rattle.geom.specs.Memory.{BenchIn, cells}
-use Rattle.geom.specs.Refusals.{side, StandsFor}
-use Rattle.geom.specs.Refinement.{Lent, RunIn, passOver, fits, runFrom}
+use Rattle.geom.specs.Refusals.{side, StandsFor, LastSteps}
+use Rattle.geom.specs.Refinement.{Lent, RunIn, passOver, runFrom}
 use Rattle.geom.proofs.Lists.{same-number}
-use Rattle.pass.specs.Benches.{stateOf, lentOf, Held, Lends, Onward}
+use Rattle.geom.proofs.Equal.{Same}
+use Rattle.lists.specs.declared.Stage.the-variants.{Whole, Full}
+use Rattle.pass.specs.Benches.{stateOf, lentOf, Held, Lends, Passed}
 use Rattle.pass.proofs.Fitting.{false-unless}
 use Rattle.pass.proofs.Whole.{cells-same}
 use Rattle.run.specs.Runs.{runOf, Ran}
@@ -40,17 +42,7 @@ odd-on n h = ⊎-elim (λ (e : n % 2 ≡ 0). absurd (h e)) (λ (l : 0 < n % 2). 
     zero-or-more zero = inl refl
     zero-or-more (suc m) = inr (omega arith)
 
--- slices keep their lengths
-pub record Same {F : Form} (x y : BenchIn F) : Type 0 where
-  pub positions : length (x .positions) ≡ length (y .positions)
-  pub marks : length (x .marks) ≡ length (y .marks)
-  pub points : length (x .points) ≡ length (y .points)
-  pub lines : length (x .lines) ≡ length (y .lines)
-  pub areas : length (x .areas) ≡ length (y .areas)
-  pub volumes : length (x .volumes) ≡ length (y .volumes)
-  pub curves : length (x .curves) ≡ length (y .curves)
-  pub «curve_vertices» : length (x .curveVertices) ≡ length (y .curveVertices)
-
+-- slices that keep their lengths lend as many cells
 pub same-cells : {F : Form} (kind : Kind) {x y : BenchIn F} → Same x y → cells kind x ≡ cells kind y
 same-cells kind {x} {y} s =
     cells-same kind x y (s .positions) (s .marks) (s .points) (s .lines) (s .areas) (s .volumes) (s .curves) (s .«curve_vertices»)
@@ -83,10 +75,10 @@ same-on s t =
 
 -- ---- the loop
 
-module _ {F : Form} (kind : Kind) (time : Bool) (base room : ℕ) (c : Sizes) (depth : ℕ) (lent : Lent) (run : RunIn F) where
+module _ {F : Form} (kind : Kind) (time : Bool) (base room : ℕ) (c : Sizes) (depth : ℕ) (lent : Lent) (run : RunIn F) (first₀ : BenchIn F) where
   -- after n passes: the bench of the last whole pass stands for the state, and the slices have kept their lengths
-  pub record Going (first₀ second₀ : BenchIn F) (book₀ : List ℕ) (sums₀ : List (F .Cell)) (tallies₀ : List ℕ) (first second : BenchIn F) (book : List ℕ) (sums : List (F .Cell)) (tallies : List ℕ) (n : ℕ) (s : Sizes) (made : ℕ) : Type 0 where
-    pub at : At kind time base room c depth lent run (side n first second) (side (n + 1) first second) book sums tallies n s made
+  pub record Going (second₀ : BenchIn F) (book₀ : List ℕ) (sums₀ : List (F .Cell)) (tallies₀ : List ℕ) (first second : BenchIn F) (book : List ℕ) (sums : List (F .Cell)) (tallies : List ℕ) (n : ℕ) (s : Sizes) (made : ℕ) : Type 0 where
+    pub at : At kind time base room c depth lent run first₀ (side n first second) (side (n + 1) first second) book sums tallies n s made
     pub one : Same first first₀
     pub two : Same second second₀
     pub entries : length book ≡ length book₀
@@ -95,43 +87,44 @@ module _ {F : Form} (kind : Kind) (time : Bool) (base room : ℕ) (c : Sizes) (d
 
   module _ (n : ℕ) {first second : BenchIn F} {book : List ℕ} {sums : List (F .Cell)} {tallies : List ℕ} {s : Sizes} {made : ℕ} where
     -- the direction of an even pass, and of an odd one
-    pub forth : n % 2 ≡ 0 → At kind time base room c depth lent run (side n first second) (side (n + 1) first second) book sums tallies n s made
-        → At kind time base room c depth lent run first second book sums tallies n s made
+    pub forth : n % 2 ≡ 0 → At kind time base room c depth lent run first₀ (side n first second) (side (n + 1) first second) book sums tallies n s made
+        → At kind time base room c depth lent run first₀ first second book sums tallies n s made
     forth e g =
         let o : (n + 1) % 2 ≡ 0 → ⊥ = λ z. omega arith in
-        subst (λ (y : BenchIn F). At kind time base room c depth lent run first y book sums tallies n s made) (side-odd (n + 1) first second o)
-        (subst (λ (x : BenchIn F). At kind time base room c depth lent run x (side (n + 1) first second) book sums tallies n s made) (side-even n first second e) g)
+        subst (λ (y : BenchIn F). At kind time base room c depth lent run first₀ first y book sums tallies n s made) (side-odd (n + 1) first second o)
+        (subst (λ (x : BenchIn F). At kind time base room c depth lent run first₀ x (side (n + 1) first second) book sums tallies n s made) (side-even n first second e) g)
 
-    pub back : (n % 2 ≡ 0 → ⊥) → At kind time base room c depth lent run (side n first second) (side (n + 1) first second) book sums tallies n s made
-        → At kind time base room c depth lent run second first book sums tallies n s made
+    pub back : (n % 2 ≡ 0 → ⊥) → At kind time base room c depth lent run first₀ (side n first second) (side (n + 1) first second) book sums tallies n s made
+        → At kind time base room c depth lent run first₀ second first book sums tallies n s made
     back e g =
         let o : (n + 1) % 2 ≡ 0 = odd-on n e in
-        subst (λ (y : BenchIn F). At kind time base room c depth lent run second y book sums tallies n s made) (side-even (n + 1) first second o)
-        (subst (λ (x : BenchIn F). At kind time base room c depth lent run x (side (n + 1) first second) book sums tallies n s made) (side-odd n first second e) g)
+        subst (λ (y : BenchIn F). At kind time base room c depth lent run first₀ second y book sums tallies n s made) (side-even (n + 1) first second o)
+        (subst (λ (x : BenchIn F). At kind time base room c depth lent run first₀ x (side (n + 1) first second) book sums tallies n s made) (side-odd n first second e) g)
 
     -- and after it
-    pub came-forth : n % 2 ≡ 0 → At kind time base room c depth lent run second first book sums tallies (n + 1) s made
-        → At kind time base room c depth lent run (side (n + 1) first second) (side (n + 1 + 1) first second) book sums tallies (n + 1) s made
+    pub came-forth : n % 2 ≡ 0 → At kind time base room c depth lent run first₀ second first book sums tallies (n + 1) s made
+        → At kind time base room c depth lent run first₀ (side (n + 1) first second) (side (n + 1 + 1) first second) book sums tallies (n + 1) s made
     came-forth e g =
         let o : (n + 1) % 2 ≡ 0 → ⊥ = λ z. omega arith in
         let p : (n + 1 + 1) % 2 ≡ 0 = omega arith in
-        subst (λ (y : BenchIn F). At kind time base room c depth lent run (side (n + 1) first second) y book sums tallies (n + 1) s made) (sym (side-even (n + 1 + 1) first second p))
-        (subst (λ (x : BenchIn F). At kind time base room c depth lent run x first book sums tallies (n + 1) s made) (sym (side-odd (n + 1) first second o)) g)
+        subst (λ (y : BenchIn F). At kind time base room c depth lent run first₀ (side (n + 1) first second) y book sums tallies (n + 1) s made) (sym (side-even (n + 1 + 1) first second p))
+        (subst (λ (x : BenchIn F). At kind time base room c depth lent run first₀ x first book sums tallies (n + 1) s made) (sym (side-odd (n + 1) first second o)) g)
 
-    pub came-back : (n % 2 ≡ 0 → ⊥) → At kind time base room c depth lent run first second book sums tallies (n + 1) s made
-        → At kind time base room c depth lent run (side (n + 1) first second) (side (n + 1 + 1) first second) book sums tallies (n + 1) s made
+    pub came-back : (n % 2 ≡ 0 → ⊥) → At kind time base room c depth lent run first₀ first second book sums tallies (n + 1) s made
+        → At kind time base room c depth lent run first₀ (side (n + 1) first second) (side (n + 1 + 1) first second) book sums tallies (n + 1) s made
     came-back e g =
         let o : (n + 1) % 2 ≡ 0 = odd-on n e in
         let p : (n + 1 + 1) % 2 ≡ 0 → ⊥ = λ z. omega arith in
-        subst (λ (y : BenchIn F). At kind time base room c depth lent run (side (n + 1) first second) y book sums tallies (n + 1) s made) (sym (side-odd (n + 1 + 1) first second p))
-        (subst (λ (x : BenchIn F). At kind time base room c depth lent run x second book sums tallies (n + 1) s made) (sym (side-even (n + 1) first second o)) g)
+        subst (λ (y : BenchIn F). At kind time base room c depth lent run first₀ (side (n + 1) first second) y book sums tallies (n + 1) s made) (sym (side-odd (n + 1 + 1) first second p))
+        (subst (λ (x : BenchIn F). At kind time base room c depth lent run first₀ x second book sums tallies (n + 1) s made) (sym (side-even (n + 1) first second o)) g)
 
   -- the answer, from the side on which the run ended
-  pub ran : {r : Refined} (n : ℕ) (first second : BenchIn F) → Ends kind time base room c depth lent run r (side n first second) n → Ran kind run r first second
+  pub ran : {r : Refined} (n : ℕ) (first second : BenchIn F) → Ends kind time base room c depth lent run first₀ r (side n first second) n → Ran kind run r first₀ first second
   ran n first second e =
       record {
         answer = e .answer;
         stands = subst (λ (k : ℕ). StandsFor kind (side k first second) (run .left .mesh)) (sym (e .passes)) (e .stands);
+        steps = subst (λ (k : ℕ). LastSteps k first₀ (side k first second) (run .left .mesh)) (sym (e .passes)) (e .steps);
       }
 
 -- before the first pass
@@ -150,6 +143,7 @@ going-start kind time base room c depth first second book sums tallies s h l =
             lends = l;
             lent-is = refl;
             on = ap (λ (d : ℕ). runFrom kind time (lentOf kind first book) base d 0 (stateOf kind s first book 0)) z;
+            steps = refl;
           };
       one = same-here first;
       two = same-here second;
@@ -161,36 +155,38 @@ going-start kind time base room c depth first second book sums tallies s h l =
 -- ---- a turn in each direction
 
 module _ {F : Form} {kind : Kind} {time : Bool} {base room : ℕ} {c : Sizes} {depth : ℕ} {lent : Lent} {run : RunIn F} {first₀ second₀ : BenchIn F} {book₀ : List ℕ} {sums₀ : List (F .Cell)} {tallies₀ : List ℕ} {first second : BenchIn F} {book : List ℕ} {sums : List (F .Cell)} {tallies : List ℕ} {n : ℕ} {s : Sizes} {made : ℕ} (g : Going kind time base room c depth lent run first₀ second₀ book₀ sums₀ tallies₀ first second book sums tallies n s made) where
-  pub at-forth : n % 2 ≡ 0 → At kind time base room c depth lent run first second book sums tallies n s made
-  at-forth e = forth kind time base room c depth lent run n e (g .at)
+  pub at-forth : n % 2 ≡ 0 → At kind time base room c depth lent run first₀ first second book sums tallies n s made
+  at-forth e = forth kind time base room c depth lent run first₀ n e (g .at)
 
-  pub at-back : (n % 2 ≡ 0 → ⊥) → At kind time base room c depth lent run second first book sums tallies n s made
-  at-back e = back kind time base room c depth lent run n e (g .at)
+  pub at-back : (n % 2 ≡ 0 → ⊥) → At kind time base room c depth lent run first₀ second first book sums tallies n s made
+  at-back e = back kind time base room c depth lent run first₀ n e (g .at)
 
   pub full-forth :
-      (second′ : BenchIn F) (r : Refined) → n % 2 ≡ 0 → n < depth → fits (lentOf kind first book) (passOver kind time base (stateOf kind s first book made)) ≡ false
-      → told r ≡ record { passes = n; sizes = s; verdict = refused 10 } → Ran kind run r first second′
+      {book′ : List ℕ} (second′ : BenchIn F) (r : Refined) → n % 2 ≡ 0 → n < depth
+      → Passed kind base (lentOf kind first book) (passOver kind time base (stateOf kind s first book made)) second′ book′ Full
+      → told r ≡ record { passes = n; sizes = s; verdict = refused 10 } → Ran kind run r first₀ first second′
   full-forth second′ r e k f t =
-      let x = ends-full kind time base room c depth lent run (at-forth e) k f r t in
-      ran kind time base room c depth lent run n first second′ (subst (λ (b : BenchIn F). Ends kind time base room c depth lent run r b n) (sym (side-even n first second′ e)) x)
+      let x = ends-full kind time base room c depth lent run first₀ (at-forth e) k f r t in
+      ran kind time base room c depth lent run first₀ n first second′ (subst (λ (b : BenchIn F). Ends kind time base room c depth lent run first₀ r b n) (sym (side-even n first second′ e)) x)
 
   pub full-back :
-      (first′ : BenchIn F) (r : Refined) → (n % 2 ≡ 0 → ⊥) → n < depth → fits (lentOf kind second book) (passOver kind time base (stateOf kind s second book made)) ≡ false
-      → told r ≡ record { passes = n; sizes = s; verdict = refused 10 } → Ran kind run r first′ second
+      {book′ : List ℕ} (first′ : BenchIn F) (r : Refined) → (n % 2 ≡ 0 → ⊥) → n < depth
+      → Passed kind base (lentOf kind second book) (passOver kind time base (stateOf kind s second book made)) first′ book′ Full
+      → told r ≡ record { passes = n; sizes = s; verdict = refused 10 } → Ran kind run r first₀ first′ second
   full-back first′ r e k f t =
-      let x = ends-full kind time base room c depth lent run (at-back e) k f r t in
-      ran kind time base room c depth lent run n first′ second (subst (λ (b : BenchIn F). Ends kind time base room c depth lent run r b n) (sym (side-odd n first′ second e)) x)
+      let x = ends-full kind time base room c depth lent run first₀ (at-back e) k f r t in
+      ran kind time base room c depth lent run first₀ n first′ second (subst (λ (b : BenchIn F). Ends kind time base room c depth lent run first₀ r b n) (sym (side-odd n first′ second e)) x)
 
-  pub done : depth ≤ n → (r : Refined) → told r ≡ record { passes = n; sizes = s; verdict = accepted } → Ran kind run r first second
-  done k r t = ran kind time base room c depth lent run n first second (ends-done kind time base room c depth lent run (g .at) k r t)
+  pub done : depth ≤ n → (r : Refined) → told r ≡ record { passes = n; sizes = s; verdict = accepted } → Ran kind run r first₀ first second
+  done k r t = ran kind time base room c depth lent run first₀ n first second (ends-done kind time base room c depth lent run first₀ (g .at) k r t)
 
   module _ {book′ : List ℕ} {sums′ : List (F .Cell)} {tallies′ : List ℕ} {t : Sizes} {e : ℕ} (k : n < depth) (q : length book′ ≡ length book) (r : length sums′ ≡ length sums) (u : length tallies′ ≡ length tallies) where
     pub go-forth :
-        {second′ : BenchIn F} → n % 2 ≡ 0 → Onward kind base (lentOf kind first book) (passOver kind time base (stateOf kind s first book made)) second′ book′ t e
+        {second′ : BenchIn F} → n % 2 ≡ 0 → Passed kind base (lentOf kind first book) (passOver kind time base (stateOf kind s first book made)) second′ book′ (Whole t e)
         → Same second′ second → Going kind time base room c depth lent run first₀ second₀ book₀ sums₀ tallies₀ first second′ book′ sums′ tallies′ (n + 1) t e
     go-forth z o w =
         record {
-          at = came-forth kind time base room c depth lent run n z (goes-on kind time base room c depth lent run (at-forth z) k o (same-cells kind w) q r u);
+          at = came-forth kind time base room c depth lent run first₀ n z (goes-on kind time base room c depth lent run first₀ (at-forth z) k o (same-cells kind w) q r u);
           one = g .one;
           two = same-on w (g .two);
           entries = q ∙ g .entries;
@@ -199,11 +195,11 @@ module _ {F : Form} {kind : Kind} {time : Bool} {base room : ℕ} {c : Sizes} {d
         }
 
     pub go-back :
-        {first′ : BenchIn F} → (n % 2 ≡ 0 → ⊥) → Onward kind base (lentOf kind second book) (passOver kind time base (stateOf kind s second book made)) first′ book′ t e
+        {first′ : BenchIn F} → (n % 2 ≡ 0 → ⊥) → Passed kind base (lentOf kind second book) (passOver kind time base (stateOf kind s second book made)) first′ book′ (Whole t e)
         → Same first′ first → Going kind time base room c depth lent run first₀ second₀ book₀ sums₀ tallies₀ first′ second book′ sums′ tallies′ (n + 1) t e
     go-back z o w =
         record {
-          at = came-back kind time base room c depth lent run n z (goes-on kind time base room c depth lent run (at-back z) k o (same-cells kind w) q r u);
+          at = came-back kind time base room c depth lent run first₀ n z (goes-on kind time base room c depth lent run first₀ (at-back z) k o (same-cells kind w) q r u);
           one = same-on w (g .one);
           two = g .two;
           entries = q ∙ g .entries;

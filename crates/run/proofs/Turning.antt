@@ -13,11 +13,13 @@ use Rattle.geom.specs.Answers.{Verdict, accepted, refused, told}
 use Rattle.geom.specs.Book.{Kind}
 use Rattle.geom.specs.Form.{Form}
 use Rattle.geom.specs.Memory.{BenchIn, cells, rowsOf, meshOf}
-use Rattle.geom.specs.Refusals.{countsHold, marksHold, StandsFor}
+use Rattle.geom.specs.Refusals.{countsHold, marksHold, StandsFor, StepsWritten, LastSteps}
 use Rattle.geom.specs.Refinement.{StateIn, Lent, RunIn, passOver, fits, runFrom, toldBy}
+use Rattle.geom.proofs.Endings.{whole-fits, stopped-bursts}
 use Rattle.geom.proofs.Stated.{sizes-stated}
 use Rattle.book.specs.Cells as Book
-use Rattle.pass.specs.Benches.{stateOf, lentOf, roomOf, capped, Held, Lends, Onward}
+use Rattle.lists.specs.declared.Stage.the-variants.{Whole, Full}
+use Rattle.pass.specs.Benches.{stateOf, lentOf, roomOf, capped, Held, Lends, Onward, Passed}
 use Rattle.pass.proofs.Ready.{held-sum}
 
 -- ---- what is lent stays
@@ -50,7 +52,7 @@ lends-kept {kind = kind} {base = base} {a = a} l p q r t =
 
 -- ---- a turn
 
-module _ {F : Form} (kind : Kind) (time : Bool) (base room : ℕ) (c : Sizes) (depth : ℕ) (lent : Lent) (run : RunIn F) where
+module _ {F : Form} (kind : Kind) (time : Bool) (base room : ℕ) (c : Sizes) (depth : ℕ) (lent : Lent) (run : RunIn F) (start : BenchIn F) where
   -- after n passes the bench `here` stands for the state, and what is left of the run goes on from there
   pub record At (here there : BenchIn F) (book : List ℕ) (sums : List (F .Cell)) (tallies : List ℕ) (n : ℕ) (s : Sizes) (made : ℕ) : Type 0 where
     pub within : n ≤ depth
@@ -58,12 +60,14 @@ module _ {F : Form} (kind : Kind) (time : Bool) (base room : ℕ) (c : Sizes) (d
     pub lends : Lends kind base room c here there book sums tallies
     pub lent-is : lentOf kind here book ≡ lent
     pub on : runFrom kind time lent base (depth - n) n (stateOf kind s here book made) ≡ run
+    pub steps : LastSteps n start here (stateOf kind s here book made .mesh)
 
   -- the answer after n passes
   pub record Ends (r : Refined) (here : BenchIn F) (n : ℕ) : Type 0 where
     pub passes : run .passes ≡ n
     pub answer : told r ≡ toldBy run
     pub stands : StandsFor kind here (run .left .mesh)
+    pub steps : LastSteps n start here (run .left .mesh)
 
   module _ {here there : BenchIn F} {book : List ℕ} {sums : List (F .Cell)} {tallies : List ℕ} {n : ℕ} {s : Sizes} {made : ℕ} (g : At here there book sums tallies n s made) where
     abbrev now : StateIn F
@@ -92,6 +96,7 @@ module _ {F : Form} (kind : Kind) (time : Bool) (base room : ℕ) (c : Sizes) (d
               ∙ ap (λ (z : Sizes). record { passes = n; sizes = z; verdict = v }) (sym (sizes-stated kind s here (held-sum (g .held))))
               ∙ ap toldBy q;
           stands = subst (λ (x : RunIn F). StandsFor kind here (x .left .mesh)) q standing;
+          steps = subst (λ (x : RunIn F). LastSteps n start here (x .left .mesh)) q (g .steps);
         }
 
     pub ends-done : depth ≤ n → (r : Refined) → told r ≡ record { passes = n; sizes = s; verdict = accepted } → Ends r here n
@@ -111,15 +116,17 @@ module _ {F : Form} (kind : Kind) (time : Bool) (base room : ℕ) (c : Sizes) (d
         ∙ sym (ap (λ (d : ℕ). runFrom kind time lent base d n now) z)
         ∙ g .on
 
-    pub ends-full : n < depth → fits (lentOf kind here book) next ≡ false → (r : Refined) → told r ≡ record { passes = n; sizes = s; verdict = refused 10 }
-        → Ends r here n
-    ends-full k f r e = ends (refused 10) r e (step k false f)
+    pub ends-full :
+        {there′ : BenchIn F} {book′ : List ℕ} → n < depth → Passed kind base (lentOf kind here book) next there′ book′ Full → (r : Refined)
+        → told r ≡ record { passes = n; sizes = s; verdict = refused 10 } → Ends r here n
+    ends-full k f r e = ends (refused 10) r e (step k false (stopped-bursts (fits (lentOf kind here book) next) _ (f .answer)))
 
     pub goes-on :
         {there′ : BenchIn F} {book′ : List ℕ} {sums′ : List (F .Cell)} {tallies′ : List ℕ} {t : Sizes} {e : ℕ} → n < depth
-        → Onward kind base (lentOf kind here book) next there′ book′ t e → cells kind there′ ≡ cells kind there → length book′ ≡ length book
+        → Passed kind base (lentOf kind here book) next there′ book′ (Whole t e) → cells kind there′ ≡ cells kind there → length book′ ≡ length book
         → length sums′ ≡ length sums → length tallies′ ≡ length tallies → At there′ here book′ sums′ tallies′ (n + 1) t e
-    goes-on {there′} {book′} {sums′} {tallies′} {t} {e} k o p q r u =
+    goes-on {there′} {book′} {sums′} {tallies′} {t} {e} k f p q r u =
+        let o : Onward kind base next there′ book′ t e = f .onward in
         let l = lends-turned (lends-kept (g .lends) p q r u) in
         record {
           within = omega arith;
@@ -130,5 +137,8 @@ module _ {F : Form} (kind : Kind) (time : Bool) (base room : ℕ) (c : Sizes) (d
           on =
               ap (λ (m : ℕ). runFrom kind time lent base (depth - m) m (stateOf kind t there′ book′ e)) (add-one n)
               ∙ ap (runFrom kind time lent base (depth - suc n) (suc n)) (o .state)
-              ∙ step k true (o .fit);
+              ∙ step k true (whole-fits (fits (lentOf kind here book) next) _ (f .answer));
+          steps =
+              subst (λ (m : ℕ). LastSteps m start there′ (stateOf kind t there′ book′ e .mesh)) (sym (add-one n))
+              (subst (λ (x : StateIn F). StepsWritten there′ (x .mesh)) (sym (o .state)) (o .steps));
         }

@@ -18,33 +18,20 @@ use Rattle.geom.specs.Form.{Form}
 use Rattle.geom.specs.Memory.{cells, firstOf, rowsOf, meshOf}
 use Rattle.geom.specs.Refusals.{goodParity, countsHold, marksHold, handedIn, DeskIn, benchesEqual, benchesHold, lentBy, refinementVerdict, SubdividedIn, unchanged, ran, subdividedBy, subdivided, toldAfter, Leaves}
 use Rattle.geom.specs.Refinement.{LIMIT, LIMITS, within, run}
+use Rattle.geom.specs.Between.{Well}
 use Rattle.geom.proofs.Lists.{same-number, and-true-left, and-true-right}
 use Rattle.geom.proofs.Accepted.{none-due, vertex-count, accepted-well}
-use Rattle.geom.proofs.Well.{Well}
 use Rattle.geom.proofs.Steady.{Steady}
 use Rattle.book.specs.Cells.{WORDS, pairsOf}
 use Rattle.index.specs.Cells.{pairs}
 use Rattle.index.proofs.Ways.{linked-none}
 use Rattle.judge.specs.Counts.{lengthsOf, cellsOf}
-use Rattle.geom.proofs.Within.{Within, within-facts}
+use Rattle.geom.proofs.Equal.{equal-facts}
 use Rattle.pass.specs.Benches.{stateOf, lentOf, capped, Held, Lends}
 use Rattle.run.specs.Runs.{runOf, Ran}
+use Rattle.run.proofs.Going.{same-cells}
 use Rattle.subdivision.specs.Entry.{Refines}
 use Rattle.subdivision.proofs.Keeping.{refines}
-
--- ---- tests that passed
-
--- counts within each other are equal
-twins : (s t : Sizes) → Within s t → Within t s → s ≡ t
-twins s t f g =
-    let v : s .vertices ≡ t .vertices = omega (arith, f .vertices, g .vertices) in
-    let p : s .points ≡ t .points = omega (arith, f .points, g .points) in
-    let l : s .lines ≡ t .lines = omega (arith, f .lines, g .lines) in
-    let a : s .areas ≡ t .areas = omega (arith, f .areas, g .areas) in
-    let o : s .volumes ≡ t .volumes = omega (arith, f .volumes, g .volumes) in
-    let c : s .curves ≡ t .curves = omega (arith, f .curves, g .curves) in
-    let k : s .«curve_vertices» ≡ t .«curve_vertices» = omega (arith, f .«curve_vertices», g .«curve_vertices») in
-    λ i. record { vertices = v i; points = p i; lines = l i; areas = a i; volumes = o i; curves = c i; «curve_vertices» = k i }
 
 -- ---- accepted
 
@@ -83,18 +70,18 @@ module _ {F : Form} (kind : Kind) (s : Sizes) (d : DeskIn F) (time : ℕ) (e : r
       {room : ℕ} {c lent : Sizes} → lent ≡ cellsOf kind (lengthsOf (d .first)) → c ≡ capped lent
       → room ≡ min (length (d .book) / WORDS) (min (lent .vertices) LIMIT - s .vertices)
       → Lends kind (s .vertices) room c (d .first) (d .second) (d .book) (d .sums) (d .tallies)
-  unfolding benchesEqual benchesHold cells cellsOf
+  unfolding benchesHold cells cellsOf
   lends l k r =
-      let a = cells kind (d .first) in
-      let b = cells kind (d .second) in
-      let m = min (length (d .sums) / 4) (length (d .tallies) / 2) in
+      let n = cells kind (d .first) .vertices in
+      let equal = benchesEqual (d .first) (d .second) in
+      let sums = eqb (length (d .sums) / 4) n in
+      let tallies = eqb (length (d .tallies) / 2) n in
       let h = and-true-right (countsHold kind s (d .first)) (benchesHold kind d) nine in
-      let w = and-true-left (within a b && within b a) (eqb m (a .vertices)) h in
-      let n : m ≡ a .vertices = same-number m (a .vertices) (and-true-right (within a b && within b a) (eqb m (a .vertices)) h) in
+      let both = and-true-left (equal && sums) tallies h in
       record {
-        twin = twins a b (within-facts a b (and-true-left (within a b) (within b a) w)) (within-facts b a (and-true-right (within a b) (within b a) w));
-        sum = omega (arith, n);
-        tally = omega (arith, n);
+        twin = same-cells kind (equal-facts (d .first) (d .second) (and-true-left equal sums both));
+        sum = omega (arith, same-number (length (d .sums) / 4) n (and-true-right equal sums both));
+        tally = omega (arith, same-number (length (d .tallies) / 2) n (and-true-right (equal && sums) tallies h));
         rooms = r ∙ ap (λ (z : Sizes). min (length (d .book) / WORDS) (min (z .vertices) LIMIT - s .vertices)) l;
         caps = k ∙ ap capped l;
       }
@@ -108,12 +95,12 @@ module _ {F : Form} (kind : Kind) (s : Sizes) (d : DeskIn F) (time : ℕ) (e : r
 
   pub runs :
       Steady F → (depth : ℕ) (after : DeskIn F) (r : Refined)
-      → Ran kind (runOf kind (eqb time 1) (lentOf kind (d .first) (d .book)) (s .vertices) depth (stateOf kind s (d .first) (d .book) 0)) r (after .first) (after .second)
+      → Ran kind (runOf kind (eqb time 1) (lentOf kind (d .first) (d .book)) (s .vertices) depth (stateOf kind s (d .first) (d .book) 0)) r (d .first) (after .first) (after .second)
       → Refines kind s d after depth time (told r)
   unfolding toldAfter Leaves
   runs steady depth after r q =
       refines steady kind s d after depth time (q .answer ∙ ap (toldAfter s) (sym (run-is depth)))
-      (subst (λ (x : SubdividedIn F). Leaves kind x d after) (sym (run-is depth)) (q .stands))
+      (subst (λ (x : SubdividedIn F). Leaves kind x d after) (sym (run-is depth)) (q .stands, q .steps))
 
 -- ---- refused
 

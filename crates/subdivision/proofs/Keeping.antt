@@ -39,7 +39,7 @@ module _ {F : Form} (steady : Steady F) (kind : Kind) (s : Sizes) (d after : Des
     left-is : meshLeft kind t after ≡ r .left .mesh
     unfolding toldBy Leaves StandsFor
     left-is =
-        ap (λ (x : Told). meshLeft kind x after) told-is ∙ subst (λ (x : SubdividedIn F). Leaves kind x d after) ran-is leaves .2
+        ap (λ (x : Told). meshLeft kind x after) told-is ∙ subst (λ (x : SubdividedIn F). Leaves kind x d after) ran-is leaves .0 .2
 
     keeps : Keeps kind (original kind s d) (t .passes) (meshLeft kind t after)
     keeps =

@@ -4,7 +4,7 @@
 //! vertex count of 0 by 8; 4 last." A field is read whole, then judged, before the next is read.
 
 use crate::{
-    memory::coordinate_is_accepted,
+    memory::{coordinate_is_accepted, Bench},
     mesh::{Curve, Element, Kind, Mesh, Sizes, Vertex, LIMIT},
 };
 
@@ -42,13 +42,17 @@ pub fn encode(mesh: &Mesh) -> Vec<u8> {
     out
 }
 
-/// The mesh of a file, or the number of the refusal, for cells lent on two benches.
-pub fn decode_onto(bytes: &[u8], first: &Sizes, second: &Sizes) -> Result<Mesh, u8> {
-    if first == second {
-        decode(bytes, first)
-    } else {
-        Err(9)
+/// The mesh of a file, or the number of the refusal, for two benches: "For a file 9 comes first". A file that says no kind is refused for
+/// that, whatever the cells.
+pub fn decode_onto(bytes: &[u8], first: &Bench, second: &Bench) -> Result<Mesh, u8> {
+    if first.lengths() != second.lengths() {
+        return Err(9);
     }
+    let kind = match bytes.get(1) {
+        Some(1) => Kind::Simplices,
+        _ => Kind::Cubes,
+    };
+    decode(bytes, &first.cells(kind))
 }
 
 /// The mesh of a file, or the number of the refusal, for cells lent equally on both benches.

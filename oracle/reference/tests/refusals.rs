@@ -5,7 +5,7 @@ mod common;
 use common::{curve, even, with_verts};
 use reference::{
     file,
-    memory::{Ended, Handed},
+    memory::{Bench, Ended, Handed},
     mesh::{Kind, Lent, Mesh, Sizes, LIMIT},
     sheet::{self, Sheet},
 };
@@ -116,11 +116,36 @@ fn lent_cells_of_a_file() {
         short[6].curve_verts -= 1;
         for lent in short {
             assert_eq!(file::decode(&bytes, &lent), Err(10));
-            // 9 before all: the second bench is unequal.
-            assert_eq!(file::decode_onto(&bytes, &full, &lent), Err(9));
-            assert_eq!(file::decode_onto(&[], &full, &lent), Err(9));
         }
+    }
+}
+
+/// 9 before all: a list's two benches are unequal, by a row or by a word.
+#[test]
+fn unequal_benches_of_a_file() {
+    let longer: [fn(&mut Bench) -> &mut Vec<u32>; 8] = [
+        |b| &mut b.pos,
+        |b| &mut b.marks,
+        |b| &mut b.points,
+        |b| &mut b.lines,
+        |b| &mut b.areas,
+        |b| &mut b.volumes,
+        |b| &mut b.curves,
+        |b| &mut b.curve_verts,
+    ];
+    for kind in KINDS {
+        let bytes = changed(kind, |_| {});
+        let full = Bench::lent(kind, &sound(kind).sizes());
         assert_eq!(file::decode_onto(&bytes, &full, &full), Ok(sound(kind)));
+        for slice in longer {
+            for words in [1, 9] {
+                let mut other = full.clone();
+                slice(&mut other).extend(vec![0; words]);
+                assert_eq!(file::decode_onto(&bytes, &full, &other), Err(9));
+                assert_eq!(file::decode_onto(&[], &other, &full), Err(9));
+                assert_eq!(file::decode_onto(&bytes, &other, &other), Ok(sound(kind)));
+            }
+        }
     }
 }
 
@@ -273,7 +298,7 @@ fn inputs_of_sheet() {
 type Change = (u8, fn(&mut Handed));
 
 /// In memory, each with its number, in the order in which they are judged.
-const CHANGES: [Change; 22] = [
+const CHANGES: [Change; 26] = [
     (9, |h| h.counts.verts = 9),
     (9, |h| h.counts.points = 9),
     (9, |h| h.counts.lines = 9),
@@ -285,8 +310,14 @@ const CHANGES: [Change; 22] = [
     (9, |h| h.first.curves[1] = u32::MAX),
     (9, |h| h.second.points.push(0)),
     (9, |h| h.second.marks.truncate(3)),
+    // As many cells, and other lengths.
+    (9, |h| h.second.pos.extend([0; 4])),
+    (9, |h| h.second.areas.push(0)),
     (9, |h| h.sum -= 1),
     (9, |h| h.tally -= 1),
+    // The other has as many cells as the vertices.
+    (9, |h| h.sum += 4),
+    (9, |h| h.tally += 2),
     (5, |h| h.first.marks[0] = 16),
     (5, |h| h.first.lines[2] = 2),
     (5, |h| h.first.curve_verts[1] = 2),

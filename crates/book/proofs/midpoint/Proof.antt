@@ -2,7 +2,7 @@
 use native.Mathlib.Omega.{arith}
 use borrow.Author.Needs.{needs}
 use Rattle.geom.specs.Book.{pair}
-use Rattle.book.proofs.Placing.{hit, hit-found, missed-none, missed-free, placed-found, placed-new, crowded}
+use Rattle.book.proofs.Placing.{hit, hit-found, missed-none, missed-free, placed-found, placed-new, crowded, answers, refuses}
 use Rattle.book.proofs.midpoint.Statement.{statement}
 use Rattle.book.proofs.midpoint.Tie as tie
 
@@ -23,7 +23,7 @@ returns c =
     let s = c .before .before .before .before .before .before .args in
     let p = c .before .before .before .before .before .before .pre in
     let f = c .before .before .before .find in
-    crowded (s .base) (s .room) (s .made) (s .book .now) (pair (s .a) (s .b)) (missed-none (s .base) (s .room) (s .made) (s .book .now) (pair (s .a) (s .b)) (f .result) p (f .ensures) (c .before .enum-told .given .1)) (c .if1 .taken)
+    refuses (crowded (s .base) (s .room) (s .made) (s .book .now) (pair (s .a) (s .b)) (missed-none (s .base) (s .room) (s .made) (s .book .now) (pair (s .a) (s .b)) (f .result) p (f .ensures) (c .before .enum-told .given .1)) (c .if1 .taken))
 
 vacant-requires : tie.Need-vacant-requires
 vacant-requires c κs = search needs
@@ -53,7 +53,7 @@ returns-2 c =
     let p = c .before .before .before .before .before .before .before .before .before .before .before .pre in
     let f = c .before .before .before .before .before .before .before .before .find in
     let e = c .before .before .enter in
-    placed-new (e .last .0) (pair (s .a) (s .b)) p (missed-none (s .base) (s .room) (s .made) (s .book .now) (pair (s .a) (s .b)) (f .result) p (f .ensures) (c .before .before .before .before .before .before .enum-told .given .1)) (c .before .before .before .before .before .if1 .left) (e .ensures) (e .kept .0)
+    answers (placed-new (e .last .0) (pair (s .a) (s .b)) p (missed-none (s .base) (s .room) (s .made) (s .book .now) (pair (s .a) (s .b)) (f .result) p (f .ensures) (c .before .before .before .before .before .before .enum-told .given .1)) (c .before .before .before .before .before .if1 .left) (e .ensures) (e .kept .0))
 
 add-t19 : tie.Need-add-t19
 add-t19 c =
@@ -77,7 +77,7 @@ returns-3 c =
     let s = c .before .before .before .before .before .before .args in
     let p = c .before .before .before .before .before .before .pre in
     let f = c .before .before .before .find in
-    placed-found (pair (s .a) (s .b)) p (hit-found (s .base) (s .room) (s .made) (s .book .now) (pair (s .a) (s .b)) (f .result) p (f .ensures) (c .before .found .given .1))
+    answers (placed-found (pair (s .a) (s .b)) p (hit-found (s .base) (s .room) (s .made) (s .book .now) (pair (s .a) (s .b)) (f .result) p (f .ensures) (c .before .found .given .1)))
 
 pub midpoint-spec : {M : Type 1} → statement M
 midpoint-spec =

@@ -1,7 +1,7 @@
 -- `book::midpoint_of` meets its contract. Assumes nothing.
 use borrow.Author.Needs.{needs}
 use Rattle.geom.specs.Kinds.{kindOf}
-use Rattle.book.proofs.Placing.{answered-still, answered-by}
+use Rattle.book.proofs.Placing.{answers, answered-still, answered-by}
 use Rattle.book.proofs.midpoint_of.Statement.{statement}
 use Rattle.book.proofs.midpoint_of.Tie as tie
 
@@ -11,7 +11,7 @@ still-requires c κs = search needs
 returns : tie.Need-returns
 returns c =
     let t = c .before .still in
-    answered-still (kindOf (c .before .before .before .args .kind)) (t .result) (t .ensures) (c .if1 .taken) (c .before .before .before .pre)
+    answers (answered-still (kindOf (c .before .before .before .args .kind)) (t .result) (t .ensures) (c .if1 .taken) (c .before .before .before .pre))
 
 midpoint-requires : tie.Need-midpoint-requires
 midpoint-requires c κs = search needs

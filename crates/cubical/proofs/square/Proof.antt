@@ -6,6 +6,7 @@ use Rattle.geom.specs.Elements.{Element}
 use Rattle.geom.specs.Memory.{firstOf, elementRow}
 use Rattle.division.specs.Writing.{Extended}
 use Rattle.division.specs.Shapes.{below, edgeAt, edgesOf, orderOf, rowOf, tableOf, axisFrom, axesOf, shapeOf}
+use Rattle.book.proofs.Placing.{outgrows}
 use Rattle.cubical.proofs.Squared.{square-shut, square-crowded, square-flat, square-divided}
 use borrow.Author.Needs.{needs}
 use native.Mathlib.Omega.{arith}
@@ -74,7 +75,7 @@ returns-2 c =
     let s = c .before .before .before .before .before .before .before .before .before .before .before .before .before .before .before .before .args in
     let q = c .before .before .before .before .before .before .before .before .before .before .before .before .before .before .before .before .pre in
     let f = sym (c .before .before .before .before .before .before .before .is-flat .ensures) ∙ c .before .before .before .before .before .before .if2 .taken in
-    square-crowded (s .base) (s .row) (s .made) (now (s .old)) (now (s .book)) (q .0) (c .before .before .before .before .before .before .before .before .before .before .if1 .left) (s .room) (s .cells) (s .rows) f (rw (c .enum-told .given .1) at (c .before .before .before .before .middle .ensures))
+    square-crowded (s .base) (s .row) (s .made) (now (s .old)) (now (s .book)) (q .0) (c .before .before .before .before .before .before .before .before .before .before .if1 .left) (s .room) (s .cells) (s .rows) f (outgrows (rw (c .enum-told .given .1) at (c .before .before .before .before .middle .ensures)))
 
 same-length-2 : tie.Need-same-length-2
 same-length-2 c = search needs
@@ -84,7 +85,7 @@ returns-3 c =
     let s = c .before .before .before .before .before .before .before .before .before .before .before .before .before .before .before .before .before .args in
     let q = c .before .before .before .before .before .before .before .before .before .before .before .before .before .before .before .before .before .pre in
     let f = sym (c .before .before .before .before .before .before .before .before .is-flat .ensures) ∙ c .before .before .before .before .before .before .before .if2 .taken in
-    square-flat (s .base) (s .row) (s .made) (now (s .old)) (now (s .book)) (q .0) (c .before .before .before .before .before .before .before .before .before .before .before .if1 .left) f (rw (c .before .asked .given .1) at (c .before .before .before .before .before .middle .ensures)) (q .1 .within) (q .1 .lent)
+    square-flat (s .base) (s .row) (s .made) (now (s .old)) (now (s .book)) (q .0) (c .before .before .before .before .before .before .before .before .before .before .before .if1 .left) f ((rw (c .before .asked .given .1) at (c .before .before .before .before .before .middle .ensures)) .placed) (q .1 .within) (q .1 .lent)
 
 slice-aggregate-divide : tie.Need-slice-aggregate-divide
 slice-aggregate-divide c = search needs

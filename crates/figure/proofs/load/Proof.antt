@@ -15,14 +15,14 @@ first c = bench (now (c .args .positions)) (now (c .args .marks)) (now (c .args 
 abbrev second : tie.Start → Bench
 second c = bench (now (c .args .other-positions)) (now (c .args .other-marks)) (now (c .args .other-points)) (now (c .args .other-lines)) (now (c .args .other-areas)) (now (c .args .other-volumes)) (now (c .args .other-curves)) (now (c .args .other-steps))
 
-benches-match-requires : tie.Need-benches-match-requires
-benches-match-requires c κs = search needs
+benches-equal-requires : tie.Need-benches-equal-requires
+benches-equal-requires c κs = search needs
 
 refused-requires : tie.Need-refused-requires
 refused-requires c κs = search needs
 
 returns : tie.Need-returns
-returns c = load-nine (first (c .before .before .before .before .before .before .before .before .before .before .before .before .before .before .before .before .before .before .before .before)) (second (c .before .before .before .before .before .before .before .before .before .before .before .before .before .before .before .before .before .before .before .before)) (now (c .before .before .before .before .before .before .before .before .before .before .before .before .before .before .before .before .before .before .before .before .args .file)) _ (sym (c .before .before .benches-match .ensures) ∙ not-true _ (c .before .if1 .taken)) (c .refused .ensures)
+returns c = load-nine (first (c .before .before .before .before .before .before .before .before .before .before .before .before .before .before .before .before .before .before .before .before)) (second (c .before .before .before .before .before .before .before .before .before .before .before .before .before .before .before .before .before .before .before .before)) (now (c .before .before .before .before .before .before .before .before .before .before .before .before .before .before .before .before .before .before .before .before .args .file)) _ (sym (c .before .before .benches-equal .ensures) ∙ not-true _ (c .before .if1 .taken)) (c .refused .ensures)
 
 figure-requires : tie.Need-figure-requires
 figure-requires c κs = search needs
@@ -37,13 +37,13 @@ enum-known-kind : tie.Need-enum-known-kind
 enum-known-kind c = search needs
 
 write-requires : tie.Need-write-requires
-write-requires c κs = load-ready (first (c .before .before .before .before .before .before .before .before .before .before .before .before .before .before .before .before .before .before .before .before .before .before .before .before .before .before .before .before .before .before .before)) (second (c .before .before .before .before .before .before .before .before .before .before .before .before .before .before .before .before .before .before .before .before .before .before .before .before .before .before .before .before .before .before .before)) (now (c .before .before .before .before .before .before .before .before .before .before .before .before .before .before .before .before .before .before .before .before .before .before .before .before .before .before .before .before .before .before .before .args .file)) (sym (c .before .before .before .before .before .before .before .before .before .before .before .before .before .benches-match .ensures) ∙ not-false _ (c .before .before .before .before .before .before .before .before .before .before .before .before .if1 .left)) _ _ (rw (c .before .before .before .before .before .before .before .before .before .kind .given .1) at (c .before .before .before .before .before .before .before .before .before .before .before .figure .ensures))
+write-requires c κs = load-ready (first (c .before .before .before .before .before .before .before .before .before .before .before .before .before .before .before .before .before .before .before .before .before .before .before .before .before .before .before .before .before .before .before)) (second (c .before .before .before .before .before .before .before .before .before .before .before .before .before .before .before .before .before .before .before .before .before .before .before .before .before .before .before .before .before .before .before)) (now (c .before .before .before .before .before .before .before .before .before .before .before .before .before .before .before .before .before .before .before .before .before .before .before .before .before .before .before .before .before .before .before .args .file)) (sym (c .before .before .before .before .before .before .before .before .before .before .before .before .before .benches-equal .ensures) ∙ not-false _ (c .before .before .before .before .before .before .before .before .before .before .before .before .if1 .left)) _ _ _ (rw (c .before .before .before .before .before .before .before .before .before .kind .given .1) at (c .before .before .before .before .before .before .before .before .before .before .before .figure .ensures))
 
 read-requires : tie.Need-read-requires
 read-requires c κs = search needs
 
 returns-2 : tie.Need-returns-2
-returns-2 c = load-refused (first (c .before .before .before .before .before .before .before .before .before .before .before .before .before .before .before .before .before .before .before .before .before .before .before .before)) (second (c .before .before .before .before .before .before .before .before .before .before .before .before .before .before .before .before .before .before .before .before .before .before .before .before)) (now (c .before .before .before .before .before .before .before .before .before .before .before .before .before .before .before .before .before .before .before .before .before .before .before .before .args .file)) (sym (c .before .before .before .before .before .before .benches-match .ensures) ∙ not-false _ (c .before .before .before .before .before .if1 .left)) _ _ (rw (c .before .before .n .given .1) at (c .before .before .before .before .figure .ensures)) (c .refused2 .ensures)
+returns-2 c = load-refused (first (c .before .before .before .before .before .before .before .before .before .before .before .before .before .before .before .before .before .before .before .before .before .before .before .before)) (second (c .before .before .before .before .before .before .before .before .before .before .before .before .before .before .before .before .before .before .before .before .before .before .before .before)) (now (c .before .before .before .before .before .before .before .before .before .before .before .before .before .before .before .before .before .before .before .before .before .before .before .before .args .file)) (sym (c .before .before .before .before .before .before .benches-equal .ensures) ∙ not-false _ (c .before .before .before .before .before .if1 .left)) _ _ (rw (c .before .before .n .given .1) at (c .before .before .before .before .figure .ensures)) (c .refused2 .ensures)
 
 same-length : tie.Need-same-length
 same-length c = search needs
@@ -70,13 +70,13 @@ same-length-8 : tie.Need-same-length-8
 same-length-8 c = search needs
 
 returns-3 : tie.Need-returns-3
-returns-3 c = load-read (first (c .before .before .before .before .before .before .before .before .before .before .before .before .before .before .before .before .before .before .before .before .before .before .before .before .before .before .before .before .before .before .before .before .before .before .before .before .before .before .before .before .before .before .before .before .before .before .before .before .before)) (second (c .before .before .before .before .before .before .before .before .before .before .before .before .before .before .before .before .before .before .before .before .before .before .before .before .before .before .before .before .before .before .before .before .before .before .before .before .before .before .before .before .before .before .before .before .before .before .before .before .before)) (now (c .before .before .before .before .before .before .before .before .before .before .before .before .before .before .before .before .before .before .before .before .before .before .before .before .before .before .before .before .before .before .before .before .before .before .before .before .before .before .before .before .before .before .before .before .before .before .before .before .before .args .file)) (sym (c .before .before .before .before .before .before .before .before .before .before .before .before .before .before .before .before .before .before .before .before .before .before .before .before .before .before .before .before .before .before .before .benches-match .ensures) ∙ not-false _ (c .before .before .before .before .before .before .before .before .before .before .before .before .before .before .before .before .before .before .before .before .before .before .before .before .before .before .before .before .before .before .if1 .left)) _ _ (rw (c .before .before .before .before .before .before .before .before .before .before .before .before .before .before .before .before .before .before .before .before .before .before .before .before .before .before .before .kind .given .1) at (c .before .before .before .before .before .before .before .before .before .before .before .before .before .before .before .before .before .before .before .before .before .before .before .before .before .before .before .before .before .figure .ensures)) _ _ (c .before .before .before .before .before .before .before .before .before .before .before .before .before .before .before .before .before .write .ensures) (c .read .ensures)
+returns-3 c = load-read (first (c .before .before .before .before .before .before .before .before .before .before .before .before .before .before .before .before .before .before .before .before .before .before .before .before .before .before .before .before .before .before .before .before .before .before .before .before .before .before .before .before .before .before .before .before .before .before .before .before .before)) (second (c .before .before .before .before .before .before .before .before .before .before .before .before .before .before .before .before .before .before .before .before .before .before .before .before .before .before .before .before .before .before .before .before .before .before .before .before .before .before .before .before .before .before .before .before .before .before .before .before .before)) (now (c .before .before .before .before .before .before .before .before .before .before .before .before .before .before .before .before .before .before .before .before .before .before .before .before .before .before .before .before .before .before .before .before .before .before .before .before .before .before .before .before .before .before .before .before .before .before .before .before .before .args .file)) (sym (c .before .before .before .before .before .before .before .before .before .before .before .before .before .before .before .before .before .before .before .before .before .before .before .before .before .before .before .before .before .before .before .benches-equal .ensures) ∙ not-false _ (c .before .before .before .before .before .before .before .before .before .before .before .before .before .before .before .before .before .before .before .before .before .before .before .before .before .before .before .before .before .before .if1 .left)) _ _ _ (rw (c .before .before .before .before .before .before .before .before .before .before .before .before .before .before .before .before .before .before .before .before .before .before .before .before .before .before .before .kind .given .1) at (c .before .before .before .before .before .before .before .before .before .before .before .before .before .before .before .before .before .before .before .before .before .before .before .before .before .before .before .before .before .figure .ensures)) _ _ (c .before .before .before .before .before .before .before .before .before .before .before .before .before .before .before .before .before .write .ensures) (c .read .ensures)
 
 pub load-spec : {M : Type 1} → statement M
 load-spec =
     tie.close
     (tie.spec
-    benches-match-requires
+    benches-equal-requires
     refused-requires
     returns
     figure-requires

@@ -4,6 +4,7 @@ use Prim.Native.Nat.{_-_}
 use denote.Ref.{now}
 use Rattle.geom.specs.Kinds.{kindOf}
 use Rattle.book.specs.Cells.{pairsOf}
+use Rattle.book.proofs.Placing.{outgrows}
 use Rattle.division.proofs.Threading.{Threading, threading-start, threading-on, threading-full, threading-done}
 use borrow.Author.Needs.{needs}
 use native.Mathlib.Omega.{arith}
@@ -135,7 +136,7 @@ returns c =
     threading-full (kindOf (s .kind)) (s .base) (s .room) (s .from) (s .rows) (s .steps) (now (s .old)) (pairsOf (now (s .book)) (s .made))
     g (c .before .before .before .before .before .before .before .parity-of .result)
     (c .before .before .before .before .before .before .before .parity-of .ensures)
-    turn (rw (c .enum-told .given .1) at (c .before .before .before .before .between .ensures))
+    turn (outgrows (rw (c .enum-told .given .1) at (c .before .before .before .before .between .ensures)))
 
 word-of-requires : tie.Need-word-of-requires Inv-loop μ-loop
 word-of-requires c κs = search needs
@@ -221,7 +222,7 @@ loop-again c =
     threading-on (kindOf (s .kind)) (s .base) (s .room) (s .from) (s .rows) (s .steps) (now (s .old)) (pairsOf (now (s .book)) (s .made))
     g (c .before .before .before .before .before .before .before .before .before .before .before .before .before .before .before .before .before .parity-of .ensures)
     turn (c .before .before .before .before .before .before .before .before .word-of .ensures)
-    (rw (c .before .before .before .before .before .before .before .before .before .before .asked .given .1) at (c .before .before .before .before .before .before .before .before .before .before .before .before .before .before .between .ensures))
+    ((rw (c .before .before .before .before .before .before .before .before .before .before .asked .given .1) at (c .before .before .before .before .before .before .before .before .before .before .before .before .before .before .between .ensures)) .placed)
     (c .before .before .before .before .before .before .put .ensures) (c .before .before .put2 .ensures)
     (c .before .before .put2 .kept .0 ∙ c .before .before .before .before .before .before .put .kept .0)
     (c .before .before .before .before .before .before .before .before .before .before .before .before .before .before .between .kept .1 .0)

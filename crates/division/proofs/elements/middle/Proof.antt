@@ -3,6 +3,7 @@ use mathlib.Core.Path.{refl}
 use denote.Ref.{now}
 use Rattle.geom.specs.Kinds.{kindOf}
 use Rattle.division.specs.Shapes.{below}
+use Rattle.book.proofs.Placing.{answers, refuses}
 use Rattle.division.proofs.Middles.{middle-placed, middle-crowded}
 use borrow.Author.Needs.{needs}
 use native.Mathlib.Omega.{arith}
@@ -31,8 +32,8 @@ same-length c = search needs
 returns : tie.Need-returns
 returns c =
     let s = c .before .before .before .before .before .before .before .before .before .before .args in
-    middle-crowded (kindOf (s .kind)) (s .base) (s .room) (s .made) (s .a) (s .b) (now (s .book))
-    (rw (c .enum-told .given .1) at (c .before .before .before .before .before .middles .ensures))
+    refuses (middle-crowded (kindOf (s .kind)) (s .base) (s .room) (s .made) (s .a) (s .b) (now (s .book))
+    (rw (c .enum-told .given .1) at (c .before .before .before .before .before .middles .ensures)))
 
 array-read-t20 : tie.Need-array-read-t20
 array-read-t20 c = search needs
@@ -43,8 +44,8 @@ same-length-2 c = search needs
 returns-2 : tie.Need-returns-2
 returns-2 c =
     let s = c .before .before .before .before .before .before .before .before .before .before .before .args in
-    middle-placed (kindOf (s .kind)) (s .base) (s .room) (s .made) (s .a) (s .b)
-    (rw (c .before .grown .given .1) at (c .before .before .before .before .before .before .middles .ensures))
+    answers (middle-placed (kindOf (s .kind)) (s .base) (s .room) (s .made) (s .a) (s .b)
+    (rw (c .before .grown .given .1) at (c .before .before .before .before .before .before .middles .ensures)))
 
 pub middle-spec : {M : Type 1} → statement M
 middle-spec =

@@ -4,6 +4,7 @@ use Prim.Native.Nat.{_-_}
 use lib.ListN.{length}
 use Rattle.geom.specs.Kinds.{kindOf}
 use Rattle.book.specs.Cells.{pairsOf}
+use Rattle.book.proofs.Placing.{outgrows}
 use Rattle.division.proofs.Middles.{Middling, middling-start, middling-length, middling-turn, middling-asks, middling-on, middling-full, middling-done}
 use borrow.Author.Needs.{needs}
 use native.Mathlib.Omega.{arith}
@@ -58,7 +59,7 @@ returns c =
     let g = c .before .before .before .before .before .before .before .before .before .before .before .loop .inv .0 in
     let turn = c .before .before .before .before .before .before .before .before .before .before .loop-test .taken in
     let a = middling-asks g turn (c .before .before .before .before .before .before .before .before .point-at .ensures) (c .before .before .before .before .before .before .point-at2 .ensures) in
-    middling-full g turn a (rw (c .enum-told .given .1) at (c .before .before .before .before .midpoint-of .ensures))
+    middling-full g turn a (outgrows (rw (c .enum-told .given .1) at (c .before .before .before .before .midpoint-of .ensures)))
 
 add-points : tie.Need-add-points Inv-loop μ-loop
 add-points c = omega (arith, middling-turn (c .before .before .before .before .before .before .before .before .before .before .before .before .loop .inv .0) (c .before .before .before .before .before .before .before .before .before .before .before .loop-test .taken), c .before .before .before .before .before .before .before .before .before .before .before .before .before .before .before .before .good)
@@ -80,7 +81,7 @@ loop-again c =
     let g = c .before .before .before .before .before .before .before .before .before .before .before .before .loop .inv .0 in
     let turn = c .before .before .before .before .before .before .before .before .before .before .before .loop-test .taken in
     let a = middling-asks g turn (c .before .before .before .before .before .before .before .before .before .point-at .ensures) (c .before .before .before .before .before .before .before .point-at2 .ensures) in
-    (middling-on g turn a (rw (c .before .asked .given .1) at (c .before .before .before .before .before .midpoint-of .ensures)), c .before .before .before .before .before .midpoint-of .kept .1 .0 ∙ c .before .before .before .before .before .before .before .before .before .before .before .before .loop .inv .1)
+    (middling-on g turn a ((rw (c .before .asked .given .1) at (c .before .before .before .before .before .midpoint-of .ensures)) .placed), c .before .before .before .before .before .midpoint-of .kept .1 .0 ∙ c .before .before .before .before .before .before .before .before .before .before .before .before .loop .inv .1)
 
 same-length-3 : tie.Need-same-length-3 Inv-loop μ-loop
 same-length-3 c = middling-length (c .before .loop .inv .0)

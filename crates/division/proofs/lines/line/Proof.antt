@@ -4,6 +4,7 @@ use denote.Ref.{now}
 use Rattle.geom.specs.Kinds.{kindOf}
 use Rattle.geom.specs.Memory.{firstOf, elementRow}
 use Rattle.division.specs.Shapes.{below, rowOf, tableOf, axesOf}
+use Rattle.book.proofs.Placing.{outgrows}
 use Rattle.division.proofs.Halving.{line-crowded, line-known, line-full, line-extends}
 use borrow.Author.Needs.{needs}
 use native.Mathlib.Omega.{arith}
@@ -57,7 +58,7 @@ returns c =
     let s = c .before .before .before .before .before .before .before .before .before .before .before .before .before .args in
     let q = c .before .before .before .before .before .before .before .before .before .before .before .before .before .pre in
     line-crowded (kindOf (s .kind)) (s .base) (s .row) (s .made) (now (s .old)) (now (s .book)) (q .0) (s .room) (s .cells) (s .rows)
-    (rw (c .enum-told .given .1) at (c .before .before .before .before .middle .ensures))
+    (outgrows (rw (c .enum-told .given .1) at (c .before .before .before .before .middle .ensures)))
 
 same-length-2 : tie.Need-same-length-2
 same-length-2 c = search needs
@@ -67,7 +68,7 @@ returns-2 c =
     let s = c .before .before .before .before .before .before .before .before .before .before .before .before .before .before .before .args in
     let q = c .before .before .before .before .before .before .before .before .before .before .before .before .before .before .before .pre in
     line-known (kindOf (s .kind)) (s .base) (s .row) (s .made) (now (s .old)) (now (s .book)) (q .0)
-    (rw (c .before .before .asked .given .1) at (c .before .before .before .before .before .before .middle .ensures)) (c .if1 .taken) (q .1 .within) (q .1 .lent)
+    ((rw (c .before .before .asked .given .1) at (c .before .before .before .before .before .before .middle .ensures)) .placed) (c .if1 .taken) (q .1 .within) (q .1 .lent)
 
 slice-aggregate-assemble : tie.Need-slice-aggregate-assemble
 slice-aggregate-assemble c = search needs
@@ -102,7 +103,7 @@ returns-3 c =
     let s = c .before .before .before .before .before .before .before .before .before .before .before .before .before .before .before .before .before .before .before .before .before .before .before .before .args in
     let q = c .before .before .before .before .before .before .before .before .before .before .before .before .before .before .before .before .before .before .before .before .before .before .before .before .pre in
     line-full (kindOf (s .kind)) (s .base) (s .row) (s .made) (now (s .old)) (now (s .book)) (q .0)
-    (rw (c .before .before .before .before .before .before .before .before .before .before .before .asked .given .1) at (c .before .before .before .before .before .before .before .before .before .before .before .before .before .before .before .middle .ensures)) (s .cells) (s .rows)
+    ((rw (c .before .before .before .before .before .before .before .before .before .before .before .asked .given .1) at (c .before .before .before .before .before .before .before .before .before .before .before .before .before .before .before .middle .ensures)) .placed) (s .cells) (s .rows)
     (c .before .before .before .before .before .before .before .before .before .if1 .left) (c .before .before .before .before .before .before .before .before .before .before .before .before .before .before .before .before .before .parity-of .ensures)
     (rw (c .enum-told2 .given .1) at (c .before .before .before .before .assemble .ensures))
 
@@ -118,7 +119,7 @@ returns-4 c =
     let s = c .before .before .before .before .before .before .before .before .before .before .before .before .before .before .before .before .before .before .before .before .before .before .before .before .before .args in
     let q = c .before .before .before .before .before .before .before .before .before .before .before .before .before .before .before .before .before .before .before .before .before .before .before .before .before .pre in
     line-extends (kindOf (s .kind)) (s .base) (s .row) (s .made) (now (s .old)) (now (s .book)) (q .0)
-    (rw (c .before .before .before .before .before .before .before .before .before .before .before .before .asked .given .1) at (c .before .before .before .before .before .before .before .before .before .before .before .before .before .before .before .before .middle .ensures))
+    ((rw (c .before .before .before .before .before .before .before .before .before .before .before .before .asked .given .1) at (c .before .before .before .before .before .before .before .before .before .before .before .before .before .before .before .before .middle .ensures)) .placed)
     (c .before .before .before .before .before .before .before .before .before .before .if1 .left) (c .before .before .before .before .before .before .before .before .before .before .before .before .before .before .before .before .before .before .parity-of .ensures)
     (rw (c .before .filled .given .1) at (c .before .before .before .before .before .assemble .ensures))
 

@@ -8,8 +8,8 @@ use borrow.Author.Needs.{needs}
 use Rattle.fields.proofs.rows.coordinate.Statement.{statement}
 use Rattle.fields.proofs.rows.coordinate.Tie as tie
 
-word-requires : tie.Need-word-requires
-word-requires c κs = search needs
+word-at-requires : tie.Need-word-at-requires
+word-at-requires c κs = search needs
 
 enum-known-pattern : tie.Need-enum-known-pattern
 enum-known-pattern c = search needs
@@ -22,24 +22,24 @@ coordinate-holds-requires c κs = search needs
 
 returns : tie.Need-returns
 unfolding coordinate
-returns c = let r = rw (c .before .before .before .before .pattern .given .1) at (c .before .before .before .before .before .before .word .ensures) in judged-on _ _ _ word 6 _ _ _ (r .1) (ap goodCoordinate (sym (ap (ofBits binary32) (r .0)) ∙ sym (c .before .before .float-of .ensures)) ∙ sym (c .before .coordinate-holds .ensures) ∙ c .if1 .taken)
+returns c = let r = rw (c .before .before .before .before .pattern .given .1) at (c .before .before .before .before .before .before .word-at .ensures) in judged-on _ _ _ word 6 _ _ _ (r .1) (ap goodCoordinate (sym (ap (ofBits binary32) (r .0)) ∙ sym (c .before .before .float-of .ensures)) ∙ sym (c .before .coordinate-holds .ensures) ∙ c .if1 .taken)
 
 enum-known-n : tie.Need-enum-known-n
 enum-known-n c = search needs
 
 returns-2 : tie.Need-returns-2
 unfolding coordinate
-returns-2 c = let r = rw (c .before .before .before .before .pattern .given .1) at (c .before .before .before .before .before .before .word .ensures) in judged-off _ _ _ word 6 _ _ _ (r .1) (ap goodCoordinate (sym (ap (ofBits binary32) (r .0)) ∙ sym (c .before .before .float-of .ensures)) ∙ sym (c .before .coordinate-holds .ensures) ∙ c .if1 .left)
+returns-2 c = let r = rw (c .before .before .before .before .pattern .given .1) at (c .before .before .before .before .before .before .word-at .ensures) in judged-off _ _ _ word 6 _ _ _ (r .1) (ap goodCoordinate (sym (ap (ofBits binary32) (r .0)) ∙ sym (c .before .before .float-of .ensures)) ∙ sym (c .before .coordinate-holds .ensures) ∙ c .if1 .left)
 
 returns-3 : tie.Need-returns-3
 unfolding coordinate
-returns-3 c = stopped word _ _ _ (rw (c .before .n .given .1) at (c .before .before .before .word .ensures))
+returns-3 c = stopped word _ _ _ (rw (c .before .n .given .1) at (c .before .before .before .word-at .ensures))
 
 pub coordinate-spec : {M : Type 1} → statement M
 coordinate-spec =
     tie.close
     (tie.spec
-    word-requires
+    word-at-requires
     enum-known-pattern
     float-of-requires
     coordinate-holds-requires

@@ -6,8 +6,8 @@ use borrow.Author.Needs.{needs}
 use Rattle.fields.proofs.rows.curve_count.Statement.{statement}
 use Rattle.fields.proofs.rows.curve_count.Tie as tie
 
-word-requires : tie.Need-word-requires
-word-requires c κs = search needs
+word-at-requires : tie.Need-word-at-requires
+word-at-requires c κs = search needs
 
 enum-known-field : tie.Need-enum-known-field
 enum-known-field c = search needs
@@ -17,10 +17,10 @@ enum-told c = search needs
 
 returns : tie.Need-returns
 unfolding curveCount
-returns c = rw (c .enum-told .given .1) (stopped word _ _ _ (rw (c .enum-told .given .1) at (c .before .before .word .ensures)))
+returns c = rw (c .enum-told .given .1) (stopped word _ _ _ (rw (c .enum-told .given .1) at (c .before .before .word-at .ensures)))
 
 returns-2 : tie.Need-returns-2
-returns-2 c = let r = rw (c .before .before .field .given .1) at (c .before .before .before .before .word .ensures) in count-none _ _ _ _ _ (r .1) _ (r .0) (c .if1 .taken)
+returns-2 c = let r = rw (c .before .before .field .given .1) at (c .before .before .before .before .word-at .ensures) in count-none _ _ _ _ _ (r .1) _ (r .0) (c .if1 .taken)
 
 cast-total : tie.Need-cast-total
 cast-total c = search needs
@@ -29,19 +29,19 @@ add-total : tie.Need-add-total
 add-total c = search needs
 
 returns-3 : tie.Need-returns-3
-returns-3 c = let r = rw (c .before .before .before .field .given .1) at (c .before .before .before .before .before .word .ensures) in count-above _ _ _ _ _ (r .1) _ (r .0) (c .before .if1 .left) (c .if2 .taken)
+returns-3 c = let r = rw (c .before .before .before .field .given .1) at (c .before .before .before .before .before .word-at .ensures) in count-above _ _ _ _ _ (r .1) _ (r .0) (c .before .if1 .left) (c .if2 .taken)
 
 returns-4 : tie.Need-returns-4
-returns-4 c = let r = rw (c .before .before .before .before .field .given .1) at (c .before .before .before .before .before .before .word .ensures) in count-many _ _ _ _ _ (r .1) _ (r .0) (c .before .before .if1 .left) (c .if3 .taken)
+returns-4 c = let r = rw (c .before .before .before .before .field .given .1) at (c .before .before .before .before .before .before .word-at .ensures) in count-many _ _ _ _ _ (r .1) _ (r .0) (c .before .before .if1 .left) (c .if3 .taken)
 
 returns-5 : tie.Need-returns-5
-returns-5 c = let r = rw (c .before .before .before .before .field .given .1) at (c .before .before .before .before .before .before .word .ensures) in count-on _ _ _ _ _ (r .1) _ (r .0) (c .before .before .if1 .left) (c .before .if2 .left) (c .if3 .left)
+returns-5 c = let r = rw (c .before .before .before .before .field .given .1) at (c .before .before .before .before .before .before .word-at .ensures) in count-on _ _ _ _ _ (r .1) _ (r .0) (c .before .before .if1 .left) (c .before .if2 .left) (c .if3 .left)
 
 pub curve-count-spec : {M : Type 1} → statement M
 curve-count-spec =
     tie.close
     (tie.spec
-    word-requires
+    word-at-requires
     enum-known-field
     enum-told
     returns

@@ -1,2 +1,0 @@
-mod Parting
-mod Patterns

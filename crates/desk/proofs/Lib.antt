@@ -1,0 +1,2 @@
+-- what the program lends
+pub mod Cells

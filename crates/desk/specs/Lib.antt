@@ -1,0 +1,2 @@
+-- the desk of the program
+pub mod Desk

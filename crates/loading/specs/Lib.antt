@@ -1,0 +1,2 @@
+-- what a file was found to be
+pub mod Loading

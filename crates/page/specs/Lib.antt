@@ -1,0 +1,2 @@
+-- the text that is printed
+pub mod Page

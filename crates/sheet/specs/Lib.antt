@@ -1,4 +1,0 @@
--- the desk of the program
-pub mod Desk
--- the text that is printed
-pub mod Page
