@@ -64,8 +64,8 @@ fn pairs_of_bucket_0(lines: u32, verts: u32, seconds: Vec<u32>) -> Vec<[u32; 2]>
 }
 
 /// A pair's number is a·FIRST + b·SECOND, of which 32 bits count.
-const FIRST: u32 = 9;
-const SECOND: u32 = 2;
+const FIRST: u32 = 25;
+const SECOND: u32 = 9;
 
 /// The bucket of a number: the buckets go round in a circle of 2^32, and a step of a number makes half a bucket or more, less than one.
 fn circled(buckets: u32, number: u32) -> u64 {
@@ -193,6 +193,6 @@ mod tests {
             deep_in_one_bucket(LINES, 1_040_000),
         ];
         let found = found.map(|mesh| (10.0 * looks(&mesh)).round() / 10.0);
-        assert_eq!(found, [0.5, 0.6, 10.3, 12.9, 48.6]);
+        assert_eq!(found, [0.5, 0.4, 10.3, 12.9, 48.6]);
     }
 }

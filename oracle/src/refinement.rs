@@ -1,6 +1,6 @@
 //! The refinements against the original Rust in reference/, which gives every expected answer: the refusal, passes and sizes; every
-//! word of every list that is left, positions bit for bit; and, after a refusal at the door, every lent word. Only what document 01
-//! calls free goes uncompared, and the word beside a curve's last vertex, which belongs to no step.
+//! word of every list that is left, positions bit for bit; without a pass, every word of the first bench; and, after a refusal at the door,
+//! every lent word. Only what document 01 calls free goes uncompared.
 use crate::{
     case::{unequal, Case},
     desk::{slices, Desk, Told, SLICES},
@@ -146,7 +146,10 @@ pub fn differs(case: &Case, engine: Engine) -> Result<Answer, String> {
         None => same_desk(&desk, &before)?,
         Some(mesh) => {
             let left = exports::left(kind, &desk, expected.passes, &expected.sizes);
-            same_lists(&left, mesh)?;
+            match expected.passes {
+                0 => same_bench("the first bench's", &desk.first, &before.first)?,
+                _ => same_lists(&left, mesh)?,
+            }
             // The first bench after an even number of passes, the second after an odd one.
             let bench = [&desk.first, &desk.second][expected.passes % 2];
             for (slice, name) in SLICES.iter().enumerate() {
@@ -203,15 +206,15 @@ fn same_desk(after: &Desk, before: &Desk) -> Result<(), String> {
     same_words("the tallies", &after.tallies, &before.tallies)
 }
 
-/// The words that are left are those of a mesh.
+/// The words that a pass has left are those of a mesh.
 fn same_lists(left: &Bench, mesh: &Mesh) -> Result<(), String> {
     let mut expected = Bench::lent(mesh.kind, &mesh.sizes());
     expected.put(mesh);
     let mut last = 0;
     for curve in &mesh.curves {
         last += curve.verts.len();
-        // The word that belongs to no step.
-        expected.curve_verts[2 * last - 1] = left.curve_verts[2 * last - 1];
+        // The word that belongs to no step, which the original does not have.
+        expected.curve_verts[2 * last - 1] = 0;
     }
     for (slice, name) in SLICES.iter().enumerate() {
         same_words(name, slices(left)[slice], slices(&expected)[slice])?;
@@ -481,7 +484,7 @@ pub mod tests {
     /// A wrong word in any slice, at its first entry or at its last, and a wrong answer, are found.
     #[test]
     fn wrong_refinements_are_noticed() {
-        let spoils: [fn(&mut Bench, &mut Told); 14] = [
+        let spoils: [fn(&mut Bench, &mut Told); 15] = [
             |b, _| flip(b.pos.first_mut()),
             |b, t| flip(b.pos.get_mut((4 * t.answer[1]).wrapping_sub(1))),
             |b, t| flip(b.marks.get_mut((3 * t.answer[1]).wrapping_sub(1))),
@@ -493,6 +496,7 @@ pub mod tests {
             |b, _| flip(b.volumes.first_mut()),
             |b, t| flip(b.curves.get_mut((2 * t.answer[6]).wrapping_sub(2))),
             |b, _| flip(b.curve_verts.first_mut()),
+            |b, t| flip(b.curve_verts.get_mut((2 * t.answer[7]).wrapping_sub(1))),
             |_, t| t.number ^= u8::from(t.number == 10),
             |_, t| t.answer[0] += usize::from(t.number == 10),
             |_, t| t.answer[7] += usize::from(t.number == 0),

@@ -4,8 +4,8 @@ ghost use mathlib.Core.Path.{_≡_};
 ghost use Rattle.geom.specs.Normals.{Shaded, shading3, shading4};
 ghost use Rattle.judge.specs.Judged.{bench};
 ghost use Rattle.told.specs.Told.{sizesFrom, verdictBy};
-use normals::compute_normals_3d;
-use normals::compute_normals_4d;
+use normals3::compute_normals_3d;
+use normals4::compute_normals_4d;
 use told::words::number;
 use told::words::stated;
 

@@ -1,4 +1,2 @@
 pub mod Fields
 pub mod Listed
-pub mod Parts
-pub mod Walk

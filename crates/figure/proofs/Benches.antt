@@ -20,8 +20,8 @@ use Rattle.judge.specs.Judged.{bench}
 use Rattle.judge.proofs.Verdicts.{area-few, volume-few}
 use Rattle.vertices.specs.Cells.{Stand, Over}
 use Rattle.fields.specs.Fields.{verticesAt, numbersAt, elementsAt, curvesAt}
-use Rattle.figure.specs.declared.judging.Places.{Places}
-use Rattle.figure.specs.Places.{pointsPlace, linesPlace, areasPlace, volumesPlace, curvesPlace, meshAt, placesOf, Figured}
+use Rattle.reading.specs.declared.judging.Places.{Places}
+use Rattle.reading.specs.Places.{pointsPlace, linesPlace, areasPlace, volumesPlace, curvesPlace, meshAt, placesOf, Figured}
 use Rattle.figure.specs.Written.{Roomy, Words, Rows, Curves, Winded, Ready}
 use Rattle.figure.specs.Entry.{opening, outcome}
 

@@ -1,4 +1,2 @@
-pub mod Places
-pub mod Picked
 pub mod Written
 pub mod Entry

@@ -1,4 +1,4 @@
--- The words that the walk that writes puts into each list, and what it asks of the file and of the lists.
+-- The words that are written into each list, and what writing them asks of the file and of the lists.
 -- Says nothing of what is right to read, which is geom's File, nor of which words stand for a mesh, which is geom's Memory.
 -- Assumes nothing.
 use mathlib.Core.Path.{_≡_}
@@ -14,8 +14,8 @@ use Rattle.geom.specs.Elements as Elements
 use Rattle.geom.specs.Mesh.{curveVertices}
 use Rattle.geom.specs.Memory.{Bench, cells, parityWord, stepsWords, curveWords, vertexWords, over}
 use Rattle.fields.specs.Fields.{wordAt, parityAt, numbersAt, paritiesAt, wide, curveAt, curvePlace, curvesAt}
-use Rattle.figure.specs.declared.judging.Places.{Places}
-use Rattle.figure.specs.Places.{Fits, Lain}
+use Rattle.reading.specs.declared.judging.Places.{Places}
+use Rattle.reading.specs.Places.{Fits, Lain}
 
 -- the words of an element
 abbrev pub rowWords : Elements.Element → List ℕ

@@ -6,8 +6,6 @@ ghost use Rattle.geom.specs.Kinds.{kindOf};
 ghost use Rattle.geom.specs.File.{NO-SIZES, loaded};
 ghost use Rattle.judge.specs.Judged.{bench};
 ghost use Rattle.figure.specs.Entry.{opening, outcome};
-use crate::judging::Found;
-use crate::judging::figure;
 use crate::writing::write;
 use geom::answer::Opened;
 use geom::answer::Reading;
@@ -15,8 +13,9 @@ use geom::answer::Sizes;
 use geom::kind::Kind;
 use judge::counts::Lengths;
 use judge::counts::benches_equal;
+use reading::judging::Found;
+use reading::judging::figure;
 
-pub mod judging;
 pub mod writing;
 
 // After a refusal nothing was read: all sizes are 0.

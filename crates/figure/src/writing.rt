@@ -9,9 +9,8 @@ ghost use Rattle.geom.specs.File.{benchOver};
 ghost use Rattle.judge.specs.Judged.{bench};
 ghost use Rattle.vertices.specs.Cells.{Over, Stand};
 ghost use Rattle.fields.specs.Fields.{vertexAt, verticesAt, numbersAt, wide, elementAt, elementsAt, curvesAt};
-ghost use Rattle.figure.specs.Places.{meshAt, placesOf};
+ghost use Rattle.reading.specs.Places.{meshAt, placesOf};
 ghost use Rattle.figure.specs.Written.{rowWords, stepWord, stepsAt, Roomy, entriesOf, Words, Rows, Steps, Curve, Curves, Wind, Winded, Ready};
-use crate::judging::Places;
 use fields::field::big_endian;
 use fields::field::float_of;
 use geom::answer::Sizes;
@@ -20,6 +19,7 @@ use geom::vertex::Vertex;
 use judge::counts::area_corners;
 use judge::counts::volume_corners;
 use numbers::vec4::Vec4;
+use reading::judging::Places;
 use vertices::make::put_vertex;
 
 // The vertex at a place.

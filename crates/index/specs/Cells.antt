@@ -60,7 +60,7 @@ bucketAt L words e = bucketOf L (cells L words) (keyAt L words e)
 
 -- a number of 32 bits from both words of a pair: small steps of either make small steps of it
 unfoldable pub pairMix : List ℕ → ℕ
-pairMix q = (getD q 0 0 * 9 + getD q 1 0 * 2) % 4294967296
+pairMix q = (getD q 0 0 * 25 + getD q 1 0 * 9) % 4294967296
 
 -- keys of two words, and n words beside each
 abbrev pub pairsBeside : ℕ → Layout

@@ -50,7 +50,7 @@ fn bucket(cells: usize, a: u32, b: u32) -> usize
     ensures { λ r. ⌜ InBucket pairs cells (a ∷ b ∷ []) r ⌝ }
 {
     let range = buckets(cells);
-    let mixed = (a as u64 * 9 + b as u64 * 2) % 4294967296;
+    let mixed = (a as u64 * 25 + b as u64 * 9) % 4294967296;
     let turned = (mixed << u32::leading_zeros(range as u32)) % 4294967296;
     (turned * range as u64 / 4294967296) as usize
 }

@@ -2,7 +2,7 @@
 -- Assumes nothing.
 use mathlib.Core.Path.{_≡_, sym, _∙_, ap, subst}
 use mathlib.Core.Bool.{Bool, true, false, not, _&&_}
-use mathlib.Core.List.{List, [], _∷_, flatMap}
+use mathlib.Core.List.{List, [], _∷_}
 use mathlib.Core.Logic.{_⊎_, inl, inr}
 use Prim.Native.Nat.{ℕ, zero, suc, _*_, _/_, _≤_, _<_}
 use native.Mathlib.Nat.{mul-suc, mul-le-mul-left, eq-or-lt-of-le}
@@ -12,21 +12,19 @@ use lib.Ieee.{Float}
 use lib.ListN.{length, getD, take, drop}
 use lib.Seq.{getD-take, getD-drop}
 use borrow.Author.Tests.{not-false, ltb-true, le-leb, lt-leb}
-use Rattle.numbers.specs.Points4 as Points4
-use Rattle.numbers.specs.Normal.{normalised3, normalised4, cells3, cells4}
 use Rattle.geom.specs.declared.answer.Sizes.{Sizes}
 use Rattle.geom.specs.declared.answer.Ended.{Ended}
 use Rattle.geom.specs.declared.answer.Ended.the-variants.{Finished, Refused}
 use Rattle.geom.specs.Answers.{Verdict, accepted, verdictOf, due, firstDue}
 use Rattle.geom.specs.Book.{simplices}
-use Rattle.geom.specs.Memory.{Bench, ElementRow, firstOf, elementRow, rowsOf, meshOf, over}
-use Rattle.geom.specs.Normals.{gather3, gather4, origin3, normals3, normals4, Shaded, shadedBy, shadingVerdict}
+use Rattle.geom.specs.Memory.{Bench, ElementRow, firstOf, elementRow, rowsOf, over}
+use Rattle.geom.specs.Normals.{Shaded, shadedBy, shadingVerdict}
 use Rattle.geom.specs.Refusals.{every, goodNumber, countsHold, numbersHold, handedIn}
 use Rattle.geom.proofs.Lists.{and-true-left, and-true-right}
-use Rattle.geom.proofs.Accepted.{none-due, refused-before, accepted-before, vertex-count}
+use Rattle.geom.proofs.Accepted.{none-due, refused-before, accepted-before}
 use Rattle.judge.proofs.Every.{every-suc}
 use Rattle.judge.proofs.Verdicts.{counts-positions, counts-marked}
-use Rattle.vertices.specs.Cells.{verticesOf, elementsOf, Elements}
+use Rattle.vertices.specs.Cells.{Elements}
 use Rattle.vertices.proofs.Gathering.{length-part}
 
 -- ---- what an acceptance gives
@@ -131,19 +129,3 @@ module _ (width : ℕ) (s : Sizes) (b : Bench) (words out : List Float) where
         let l : test ≡ true = le-leb (s .vertices) (length out / width) h in
         ap (λ (x : List Float). record { verdict = accepted; out = x }) e
         ∙ sym (ap (λ (x : Verdict). shadedBy x words out) (v ∙ ap (λ (t : Bool). firstDue (due 10 (not t) ∷ [])) l))
-
--- the normals of the vertices that are stated, as those of the mesh that the rows stand for
-module _ (s : Sizes) (b : Bench) (out after : List Float) where
-  pub of-mesh3 : after ≡ over out (flatMap cells3 (firstOf (λ (v : ℕ). normalised3 (gather3 (verticesOf (b .positions) (b .marks) (s .vertices)) v (elementsOf 3 (b .areas) (s .areas)) origin3)) (s .vertices)))
-      → after ≡ over out (flatMap cells3 (normals3 (meshOf (rowsOf simplices s b))))
-  unfolding normals3 rowsOf meshOf
-  of-mesh3 e =
-      e ∙ ap (λ (n : ℕ). over out (flatMap cells3 (firstOf (λ (v : ℕ). normalised3 (gather3 (verticesOf (b .positions) (b .marks) (s .vertices)) v (elementsOf 3 (b .areas) (s .areas)) origin3)) n)))
-      (sym (vertex-count simplices s b))
-
-  pub of-mesh4 : after ≡ over out (flatMap cells4 (firstOf (λ (v : ℕ). normalised4 (gather4 (verticesOf (b .positions) (b .marks) (s .vertices)) v (elementsOf 4 (b .volumes) (s .volumes)) Points4.origin)) (s .vertices)))
-      → after ≡ over out (flatMap cells4 (normals4 (meshOf (rowsOf simplices s b))))
-  unfolding normals4 rowsOf meshOf
-  of-mesh4 e =
-      e ∙ ap (λ (n : ℕ). over out (flatMap cells4 (firstOf (λ (v : ℕ). normalised4 (gather4 (verticesOf (b .positions) (b .marks) (s .vertices)) v (elementsOf 4 (b .volumes) (s .volumes)) Points4.origin)) n)))
-      (sym (vertex-count simplices s b))

@@ -1,7 +1,5 @@
 -- sums in lent cells: cleared, and an element's normal added to each corner
 pub mod Adding
--- what an element's normal is, by its corners and its parity
-pub mod Faces
 -- each sum normalised in place, and the three loops together
 pub mod Settling
 -- the entries: what an acceptance gives, and what each answer means

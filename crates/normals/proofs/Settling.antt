@@ -8,27 +8,11 @@ use native.Mathlib.Omega.{arith}
 use lib.Ieee.{Float}
 use lib.ListN.{length, drop}
 use lib.Seq.{sets, length-sets}
-use Rattle.numbers.specs.declared.normal.Normal3.{Normal3}
-use Rattle.numbers.specs.declared.normal.Normal3.the-variants as N3
-use Rattle.numbers.specs.declared.normal.Normal4.{Normal4}
-use Rattle.numbers.specs.declared.normal.Normal4.the-variants as N4
-use Rattle.numbers.specs.Normal.{cells3, cells4}
 use Rattle.geom.specs.Memory.{firstOf, over}
 use Rattle.geom.proofs.Rows.{length-firstOf, firstOf-same}
 use Rattle.vertices.proofs.Written.{laid-on, laid-over, length-flat}
 use Rattle.normals.specs.Cells.{Cleared, Holds}
 use Rattle.normals.proofs.Adding.{Reads}
-
--- a normal is as wide as its cell
-pub wide3 : (n : Normal3) → length (cells3 n) ≡ 3
-unfolding cells3
-wide3 (N3.Direction x y z) = refl
-wide3 N3.Flat = refl
-
-pub wide4 : (n : Normal4) → length (cells4 n) ≡ 4
-unfolding cells4
-wide4 (N4.Direction x y z w) = refl
-wide4 N4.Flat = refl
 
 -- what is written for a case of the enum is written for the normal that is that case
 pub written-as : {B : Type 0} (cells : B → List Float) (before : List Float) (k : ℕ) {n case : B} {after : List Float} → n ≡ case → after ≡ sets before k (cells case) → after ≡ sets before k (cells n)

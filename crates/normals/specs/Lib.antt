@@ -1,2 +1,2 @@
--- The lent normals as cells, and what an element adds to each vertex.
+-- the lent normals as cells
 pub mod Cells

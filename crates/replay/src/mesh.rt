@@ -7,8 +7,8 @@ use crate::print::spaced;
 use geom::answer::Ended;
 use geom::answer::Sizes;
 use geom::kind::Kind;
-use normals::compute_normals_3d;
-use normals::compute_normals_4d;
+use normals3::compute_normals_3d;
+use normals4::compute_normals_4d;
 use triangulation::triangulate;
 
 pub fn refused(n: u8) {

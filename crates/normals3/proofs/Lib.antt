@@ -1,0 +1,2 @@
+-- what a triangle adds, and what that comes to
+pub mod Faces

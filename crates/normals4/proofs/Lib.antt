@@ -1,0 +1,2 @@
+-- what a tetrahedron adds, and what that comes to
+pub mod Faces

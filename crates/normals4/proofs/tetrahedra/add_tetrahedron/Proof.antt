@@ -1,0 +1,74 @@
+-- `normals4::tetrahedra::add_tetrahedron` meets its contract. Assumes nothing.
+use borrow.Author.Needs.{needs}
+use Rattle.normals4.proofs.Faces.{four-below, tetrahedron-on}
+use Rattle.normals4.proofs.tetrahedra.add_tetrahedron.Statement.{statement}
+use Rattle.normals4.proofs.tetrahedra.add_tetrahedron.Tie as tie
+
+mul-start : tie.Need-mul-start
+mul-start c = search needs
+
+word-requires : tie.Need-word-requires
+word-requires c κs = search needs
+
+add-word : tie.Need-add-word
+add-word c = search needs
+
+word-requires-2 : tie.Need-word-requires-2
+word-requires-2 c κs = search needs
+
+add-word-2 : tie.Need-add-word-2
+add-word-2 c = search needs
+
+word-requires-3 : tie.Need-word-requires-3
+word-requires-3 c κs = search needs
+
+add-word-3 : tie.Need-add-word-3
+add-word-3 c = search needs
+
+word-requires-4 : tie.Need-word-requires-4
+word-requires-4 c κs = search needs
+
+add-parity-of : tie.Need-add-parity-of
+add-parity-of c = search needs
+
+mul-parity-of : tie.Need-mul-parity-of
+mul-parity-of c = search needs
+
+shared-slice-read-parity-of : tie.Need-shared-slice-read-parity-of
+shared-slice-read-parity-of c = search needs
+
+parity-of-requires : tie.Need-parity-of-requires
+parity-of-requires c κs = search needs
+
+volume-normal-requires : tie.Need-volume-normal-requires
+volume-normal-requires c κs = (c .before .before .before .before .before .before .before .before .before .pre .0, four-below _ _ _ (c .before .before .before .before .before .before .before .before .before .pre .1 .0) _ _ _ _ (c .before .before .before .before .before .word .ensures) (c .before .before .before .before .word2 .ensures) (c .before .before .before .word3 .ensures) (c .before .before .word4 .ensures))
+
+to-corners-requires : tie.Need-to-corners-requires
+to-corners-requires c κs = (c .before .before .before .before .before .before .before .before .before .before .before .pre .1 .1, four-below _ _ _ (c .before .before .before .before .before .before .before .before .before .before .before .pre .1 .0) _ _ _ _ (c .before .before .before .before .before .before .before .word .ensures) (c .before .before .before .before .before .before .word2 .ensures) (c .before .before .before .before .before .word3 .ensures) (c .before .before .before .before .word4 .ensures))
+
+same-length : tie.Need-same-length
+same-length c = search needs
+
+returns : tie.Need-returns
+returns c = tetrahedron-on _ _ _ (c .before .before .before .before .before .before .before .before .before .before .before .before .before .before .pre .1 .0) _ _ _ _ (c .before .before .before .before .before .before .before .before .before .before .word .ensures) (c .before .before .before .before .before .before .before .before .before .word2 .ensures) (c .before .before .before .before .before .before .before .before .word3 .ensures) (c .before .before .before .before .before .before .before .word4 .ensures) _ (c .before .before .before .before .before .parity-of .ensures) _ _ (c .before .before .before .before .volume-normal .ensures) _ _ (c .before .before .to-corners .ensures)
+
+pub add-tetrahedron-spec : {M : Type 1} → statement M
+add-tetrahedron-spec =
+    tie.close
+    (tie.spec
+    mul-start
+    word-requires
+    add-word
+    word-requires-2
+    add-word-2
+    word-requires-3
+    add-word-3
+    word-requires-4
+    add-parity-of
+    mul-parity-of
+    shared-slice-read-parity-of
+    parity-of-requires
+    volume-normal-requires
+    to-corners-requires
+    same-length
+    returns)

@@ -1,0 +1,2 @@
+-- what a tetrahedron adds to each vertex
+pub mod Cells
