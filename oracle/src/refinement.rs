@@ -146,9 +146,14 @@ pub fn differs(case: &Case, engine: Engine) -> Result<Answer, String> {
         None => same_desk(&desk, &before)?,
         Some(mesh) => {
             let left = exports::left(kind, &desk, expected.passes, &expected.sizes);
-            match expected.passes {
-                0 => same_bench("the first bench's", &desk.first, &before.first)?,
-                _ => same_lists(&left, mesh)?,
+            // Beside a curve's last vertex stands what was handed in, or after a pass 0. The original has no such word.
+            let beside = |at: usize| match expected.passes {
+                0 => before.first.curve_verts[at],
+                _ => 0,
+            };
+            same_lists(&left, mesh, beside)?;
+            if expected.passes == 0 {
+                same_bench("the first bench's", &desk.first, &before.first)?;
             }
             // The first bench after an even number of passes, the second after an odd one.
             let bench = [&desk.first, &desk.second][expected.passes % 2];
@@ -206,15 +211,14 @@ fn same_desk(after: &Desk, before: &Desk) -> Result<(), String> {
     same_words("the tallies", &after.tallies, &before.tallies)
 }
 
-/// The words that a pass has left are those of a mesh.
-fn same_lists(left: &Bench, mesh: &Mesh) -> Result<(), String> {
+/// The words that are left are those of a mesh, and these stand beside the last vertices of its curves.
+fn same_lists(left: &Bench, mesh: &Mesh, beside: impl Fn(usize) -> u32) -> Result<(), String> {
     let mut expected = Bench::lent(mesh.kind, &mesh.sizes());
     expected.put(mesh);
     let mut last = 0;
     for curve in &mesh.curves {
         last += curve.verts.len();
-        // The word that belongs to no step, which the original does not have.
-        expected.curve_verts[2 * last - 1] = 0;
+        expected.curve_verts[2 * last - 1] = beside(2 * last - 1);
     }
     for (slice, name) in SLICES.iter().enumerate() {
         same_words(name, slices(left)[slice], slices(&expected)[slice])?;
