@@ -3,7 +3,7 @@
 use mathlib.Core.Path.{_≡_, refl, sym, _∙_, ap}
 use mathlib.Core.Bool.{true, false}
 use mathlib.Core.List.{List}
-use Prim.Native.Nat.{ℕ, suc, _+_, _*_, _/_, _^_, _≤_, _<_}
+use Prim.Native.Nat.{ℕ, suc, _+_, _*_, _/_, _≤_}
 use native.Mathlib.Nat.{le-div-iff-mul-le, mul-comm, zero-lt-suc}
 use native.Mathlib.Omega.{arith}
 use lib.Ieee.{Float}
@@ -20,9 +20,8 @@ use Rattle.judge.specs.Judged.{bench}
 use Rattle.judge.proofs.Verdicts.{area-few, volume-few}
 use Rattle.vertices.specs.Cells.{Stand, Over}
 use Rattle.fields.specs.Fields.{verticesAt, numbersAt, elementsAt, curvesAt}
-use Rattle.reading.specs.declared.judging.Places.{Places}
-use Rattle.reading.specs.Places.{pointsPlace, linesPlace, areasPlace, volumesPlace, curvesPlace, meshAt, placesOf, Figured}
-use Rattle.figure.specs.Written.{Roomy, Words, Rows, Curves, Winded, Ready}
+use Rattle.reading.specs.Places.{pointsPlace, linesPlace, areasPlace, volumesPlace, curvesPlace, meshAt, Figured}
+use Rattle.figure.specs.Written.{Words, Rows, Curves, Winded, Ready}
 use Rattle.figure.specs.Entry.{opening, outcome}
 
 -- ---- before the calls
@@ -74,17 +73,6 @@ module _ (kind : Kind) (s : Sizes) (bytes : List ℕ) (b : Bench) (r : Ready kin
         room = omega (arith, r .fits .steps, ap (λ (t : Sizes). t .«curve_vertices») (r .lain .sizes));
       }
 
-  pub places-room : (p : Places) → p ≡ placesOf kind s → length bytes < 2 ^ 64 → Roomy p
-  places-room p e h =
-      rw e
-      (record {
-        points = omega (arith, r .lain .whole);
-        lines = omega (arith, r .lain .whole);
-        areas = omega (arith, r .lain .whole);
-        volumes = omega (arith, r .lain .whole);
-        curves = omega (arith, r .lain .whole);
-      })
-
   -- ---- after them
 
   pub written : (positions : List Float) (marks points lines areas volumes curves steps : List ℕ)
@@ -120,10 +108,10 @@ module _ (first second : Bench) (bytes : List ℕ) where
     unfolding loaded
     load-refused o n f e = rw (sym equal ∙ m, sym lent-same ∙ f, e) refl
 
-    module _ (kind : Kind) (s : Sizes) (p : Places) (f : Figured kind s p (λ (kind : Kind). cellsOf kind (lengthsOf first)) bytes) where
-      pub load-ready : Ready kind s bytes first × (p ≡ placesOf kind s)
+    module _ (kind : Kind) (s : Sizes) (f : Figured kind s (λ (kind : Kind). cellsOf kind (lengthsOf first)) bytes) where
+      pub load-ready : Ready kind s bytes first
       unfolding cells cellsOf
-      load-ready = (record { lain = f .lain; fits = f .fits }, f .places)
+      load-ready = record { lain = f .lain; fits = f .fits }
 
       pub load-read : (o : Opening) (after : Bench) → after ≡ benchOver first (benchOf (meshAt kind s bytes)) → o ≡ opening s (meshOfKind kind)
           → outcome o after ≡ loaded first second bytes

@@ -2,3 +2,4 @@ pub mod Laying
 pub mod Elements
 pub mod Strings
 pub mod Benches
+pub mod Putting

@@ -140,6 +140,11 @@ module _ (bytes : List ℕ) (at : ℕ) where
       go rest (inl e) = rw e (omega arith)
       go rest (inr l) = let r = rest (omega arith) in omega arith
 
+  -- curves that stand in the file begin in it
+  pub begins : (curves steps : List ℕ) (n : ℕ) → Curves bytes at curves steps n → at ≤ length bytes
+  unfolding curvePlace
+  begins curves steps n r = omega (arith, place-up 0 n (omega arith), r .stand)
+
   total-up : (i n : ℕ) → i ≤ n → curveVertices (curvesAt bytes at i) ≤ curveVertices (curvesAt bytes at n)
   unfolding firstOf
   total-up i zero h = let e : i ≡ 0 = omega arith in rw e (omega arith)

@@ -4,7 +4,7 @@
 use mathlib.Core.Path.{_≡_}
 use mathlib.Core.Bool.{cond}
 use mathlib.Core.List.{List, [], _∷_, _++_}
-use Prim.Native.Nat.{ℕ, suc, _+_, _-_, _*_, _^_, _≤_, _<_}
+use Prim.Native.Nat.{ℕ, suc, _+_, _-_, _*_, _≤_, _<_}
 use lib.Dec.{ltb}
 use lib.ListN.{length}
 use lib.Seq.{sets}
@@ -14,7 +14,6 @@ use Rattle.geom.specs.Elements as Elements
 use Rattle.geom.specs.Mesh.{curveVertices}
 use Rattle.geom.specs.Memory.{Bench, cells, parityWord, stepsWords, curveWords, vertexWords, over}
 use Rattle.fields.specs.Fields.{wordAt, parityAt, numbersAt, paritiesAt, wide, curveAt, curvePlace, curvesAt}
-use Rattle.reading.specs.declared.judging.Places.{Places}
 use Rattle.reading.specs.Places.{Fits, Lain}
 
 -- the words of an element
@@ -28,24 +27,6 @@ stepWord bytes at count j = cond (ltb (j + 1) count) (parityWord (parityAt bytes
 -- the words of a curve's vertices
 unfoldable pub stepsAt : List ℕ → ℕ → ℕ → List ℕ
 stepsAt bytes at count = stepsWords (numbersAt bytes at count) (paritiesAt bytes (at + 4 * count) (count - 1))
-
--- places with room for a count behind them, and the places behind the counts
-pub record Roomy (p : Places) : Type 0 where
-  pub points : p .points + 4 < 2 ^ 64
-  pub lines : p .lines + 4 < 2 ^ 64
-  pub areas : p .areas + 4 < 2 ^ 64
-  pub volumes : p .volumes + 4 < 2 ^ 64
-  pub curves : p .curves + 4 < 2 ^ 64
-
-abbrev pub entriesOf : Places → Places
-entriesOf p =
-    record {
-      points = p .points + 4;
-      lines = p .lines + 4;
-      areas = p .areas + 4;
-      volumes = p .volumes + 4;
-      curves = p .curves + 4;
-    }
 
 -- n numbers stand in the file, and there is room for them
 pub record Words (bytes : List ℕ) (at : ℕ) (out : List ℕ) (from n : ℕ) : Type 0 where

@@ -101,16 +101,11 @@ pub fn load(
     }
     match figure(file, first) {
         Found::Refused(n) => refused(n),
-        Found::Mesh {
-            kind,
-            sizes,
-            places,
-        } => {
+        Found::Mesh { kind, sizes } => {
             write(
                 file,
                 kind,
                 sizes,
-                places,
                 positions,
                 marks,
                 points,

@@ -1,4 +1,5 @@
-// What the reader has walked over is written: the judgement has passed, so every field is read at its place, and each list is written from its start.
+// The second walk, which writes: the judgement has passed, so every field is read at its place. One reader goes past the lists, and each is written from
+// its start.
 ghost use mathlib.Core.Path.{_≡_};
 ghost use Prim.Native.Nat.{_+_, _*_, _≤_, _<_};
 ghost use lib.ListN.{length};
@@ -9,8 +10,8 @@ ghost use Rattle.geom.specs.File.{benchOver};
 ghost use Rattle.judge.specs.Judged.{bench};
 ghost use Rattle.vertices.specs.Cells.{Over, Stand};
 ghost use Rattle.fields.specs.Fields.{vertexAt, verticesAt, numbersAt, wide, elementAt, elementsAt, curvesAt};
-ghost use Rattle.reading.specs.Places.{meshAt, placesOf};
-ghost use Rattle.figure.specs.Written.{rowWords, stepWord, stepsAt, Roomy, entriesOf, Words, Rows, Steps, Curve, Curves, Wind, Winded, Ready};
+ghost use Rattle.reading.specs.Places.{meshAt};
+ghost use Rattle.figure.specs.Written.{rowWords, stepWord, stepsAt, Words, Rows, Steps, Curve, Curves, Wind, Winded, Ready};
 use fields::field::big_endian;
 use fields::field::float_of;
 use geom::answer::Sizes;
@@ -19,7 +20,7 @@ use geom::vertex::Vertex;
 use judge::counts::area_corners;
 use judge::counts::volume_corners;
 use numbers::vec4::Vec4;
-use reading::judging::Places;
+use reading::reader::set_up;
 use vertices::make::put_vertex;
 
 // The vertex at a place.
@@ -42,18 +43,25 @@ pub fn vertex_of(file: &[u8], at: usize) -> Vertex
     }
 }
 
-// The vertices.
-pub fn put_vertices(file: &[u8], at: usize, positions: &mut [f32], marks: &mut [u32], n: usize)
-    requires { ⌜ at + 25 * n ≤ length (now file) ⌝ }
-    requires { ⌜ Stand (now positions) (now marks) n ⌝ }
-    ensures { λ r. ⌜ Over (now (positions .entry)) (now (marks .entry)) (verticesAt (now (file .entry)) at n) (now (positions .exit)) (now (marks .exit)) ⌝ }
+// The list of vertices at a place, its count first. The answer is the place behind the list.
+pub fn put_vertices(
+    file: &[u8],
+    at: usize,
+    positions: &mut [f32],
+    marks: &mut [u32],
+    n: usize,
+) -> usize
+    requires { ⌜ (at + 4 + 25 * n ≤ length (now file)) × Stand (now positions) (now marks) n ⌝ }
+    ensures { λ r. ⌜ (r ≡ at + 4 + 25 * n) × Over (now (positions .entry)) (now (marks .entry)) (verticesAt (now (file .entry)) (at + 4) n) (now (positions .exit)) (now (marks .exit)) ⌝ }
 {
+    let start = at + 4;
     let mut i: usize = 0;
     while i < n {
-        let v = vertex_of(file, at + 25 * i);
+        let v = vertex_of(file, start + 25 * i);
         put_vertex(positions, marks, i, v);
         i += 1;
     }
+    start + 25 * n
 }
 
 // Numbers, one after the other, from a word of a list on.
@@ -68,12 +76,14 @@ pub fn put_numbers(file: &[u8], at: usize, out: &mut [u32], from: usize, n: usiz
     }
 }
 
-// The points.
-pub fn put_points(file: &[u8], at: usize, points: &mut [u32], n: usize)
-    requires { ⌜ Words (now file) at (now points) 0 n ⌝ }
-    ensures { λ r. ⌜ now (points .exit) ≡ over (now (points .entry)) (numbersAt (now (file .entry)) at n) ⌝ }
+// The list of points at a place.
+pub fn put_points(file: &[u8], at: usize, points: &mut [u32], n: usize) -> usize
+    requires { ⌜ Words (now file) (at + 4) (now points) 0 n ⌝ }
+    ensures { λ r. ⌜ (r ≡ at + 4 + 4 * n) × (now (points .exit) ≡ over (now (points .entry)) (numbersAt (now (file .entry)) (at + 4) n)) ⌝ }
 {
-    put_numbers(file, at, points, 0, n);
+    let start = at + 4;
+    put_numbers(file, start, points, 0, n);
+    start + 4 * n
 }
 
 // The word of a parity byte: 0 even, 1 odd.
@@ -96,18 +106,20 @@ pub fn put_element(file: &[u8], at: usize, out: &mut [u32], from: usize, corners
     out[from + corners] = parity_word(byte);
 }
 
-// The elements of a list.
-pub fn put_elements(file: &[u8], at: usize, out: &mut [u32], corners: usize, n: usize)
-    requires { ⌜ Rows (now file) at (now out) corners n ⌝ }
-    ensures { λ r. ⌜ now (out .exit) ≡ over (now (out .entry)) (elementWords (elementsAt corners (now (file .entry)) at n)) ⌝ }
+// The list of elements at a place.
+pub fn put_elements(file: &[u8], at: usize, out: &mut [u32], corners: usize, n: usize) -> usize
+    requires { ⌜ Rows (now file) (at + 4) (now out) corners n ⌝ }
+    ensures { λ r. ⌜ (r ≡ at + 4 + wide corners * n) × (now (out .exit) ≡ over (now (out .entry)) (elementWords (elementsAt corners (now (file .entry)) (at + 4) n))) ⌝ }
 {
+    let start = at + 4;
     let wide = 4 * corners + 1;
     let cell = corners + 1;
     let mut i: usize = 0;
     while i < n {
-        put_element(file, at + wide * i, out, cell * i, corners);
+        put_element(file, start + wide * i, out, cell * i, corners);
         i += 1;
     }
+    start + wide * n
 }
 
 // The word beside vertex j of a curve: the parity of the step to the next, and 0 beside the last. The vertices begin at a place, the parities behind them.
@@ -159,12 +171,12 @@ pub fn put_curve(
     count as usize
 }
 
-// The curves.
+// The list of curves at a place; nothing is read behind it.
 pub fn put_curves(file: &[u8], at: usize, curves: &mut [u32], steps: &mut [u32], n: usize)
-    requires { ⌜ Curves (now file) at (now curves) (now steps) n ⌝ }
-    ensures { λ r. ⌜ Winded (curvesAt (now (file .entry)) at n) (now (curves .entry)) (now (steps .entry)) (now (curves .exit)) (now (steps .exit)) ⌝ }
+    requires { ⌜ Curves (now file) (at + 4) (now curves) (now steps) n ⌝ }
+    ensures { λ r. ⌜ Winded (curvesAt (now (file .entry)) (at + 4) n) (now (curves .entry)) (now (steps .entry)) (now (curves .exit)) (now (steps .exit)) ⌝ }
 {
-    let mut place = at;
+    let mut place = at + 4;
     let mut from: usize = 0;
     let mut i: usize = 0;
     while i < n {
@@ -175,26 +187,11 @@ pub fn put_curves(file: &[u8], at: usize, curves: &mut [u32], steps: &mut [u32],
     }
 }
 
-// Where the entries of each list begin: behind its count.
-pub fn entries_of(p: Places) -> Places
-    requires { ⌜ Roomy p ⌝ }
-    ensures { λ r. ⌜ r ≡ entriesOf p ⌝ }
-{
-    Places {
-        points: p.points + 4,
-        lines: p.lines + 4,
-        areas: p.areas + 4,
-        volumes: p.volumes + 4,
-        curves: p.curves + 4,
-    }
-}
-
-// The mesh of a file is written to a bench, each list from the place where the reader stood before it, behind its count.
+// The mesh of a file is written to a bench. A reader is set up behind version and kind, and moved past each list that was written.
 pub fn write(
     file: &[u8],
     kind: Kind,
     s: Sizes,
-    places: Places,
     positions: &mut [f32],
     marks: &mut [u32],
     points: &mut [u32],
@@ -205,20 +202,13 @@ pub fn write(
     steps: &mut [u32],
 )
     requires { ⌜ Ready (kindOf kind) s (now file) (bench (now positions) (now marks) (now points) (now lines) (now areas) (now volumes) (now curves) (now steps)) ⌝ }
-    requires { ⌜ places ≡ placesOf (kindOf kind) s ⌝ }
     ensures { λ r. ⌜ bench (now (positions .exit)) (now (marks .exit)) (now (points .exit)) (now (lines .exit)) (now (areas .exit)) (now (volumes .exit)) (now (curves .exit)) (now (steps .exit)) ≡ benchOver (bench (now (positions .entry)) (now (marks .entry)) (now (points .entry)) (now (lines .entry)) (now (areas .entry)) (now (volumes .entry)) (now (curves .entry)) (now (steps .entry))) (benchOf (meshAt (kindOf kind) s (now (file .entry)))) ⌝ }
 {
-    let start = entries_of(places);
-    put_vertices(file, 6, positions, marks, s.vertices);
-    put_points(file, start.points, points, s.points);
-    put_elements(file, start.lines, lines, 2, s.lines);
-    put_elements(file, start.areas, areas, area_corners(kind), s.areas);
-    put_elements(
-        file,
-        start.volumes,
-        volumes,
-        volume_corners(kind),
-        s.volumes,
-    );
-    put_curves(file, start.curves, curves, steps, s.curves);
+    let mut r = set_up(file, 2);
+    r.at = put_vertices(r.src, r.at, positions, marks, s.vertices);
+    r.at = put_points(r.src, r.at, points, s.points);
+    r.at = put_elements(r.src, r.at, lines, 2, s.lines);
+    r.at = put_elements(r.src, r.at, areas, area_corners(kind), s.areas);
+    r.at = put_elements(r.src, r.at, volumes, volume_corners(kind), s.volumes);
+    put_curves(r.src, r.at, curves, steps, s.curves);
 }

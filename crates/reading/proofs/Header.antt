@@ -135,12 +135,11 @@ module _ (lent : Kind → Sizes) where
 
   pub figure-finds : (bytes : List ℕ) (kind : Declared.Kind) (cells : Sizes) → opening bytes ≡ read (kindOf kind) (drop 2 bytes) → cells ≡ lent (kindOf kind)
       → (r : Found) → Lies r kind cells bytes → Finds r lent bytes
-  figure-finds bytes kind cells e q (Found.Mesh k s p) l =
+  figure-finds bytes kind cells e q (Found.Mesh k s) l =
       rw (l .0)
       (record {
         reads = figure-is bytes ∙ rw (e, ← q) (l .1);
         lain = l .2;
         fits = rw q at (l .3);
-        places = l .4;
       })
   figure-finds bytes kind cells e q (Found.Refused n) l = figure-is bytes ∙ rw (e, ← q) l

@@ -20,7 +20,7 @@ use Rattle.reading.specs.Parts.{strung}
 use Rattle.fields.proofs.Listing.{first-stops, list-stops}
 use Rattle.reading.specs.declared.judging.Found.{Found}
 use Rattle.reading.specs.declared.judging.Found.the-variants as Found
-use Rattle.reading.specs.Places.{endPlace, meshAt, placesOf, Fits, Lain}
+use Rattle.reading.specs.Places.{endPlace, meshAt, Fits, Lain}
 
 -- the lists, and that nothing is left over
 unfoldable pub lying : Kind → Sizes → Reader Figure
@@ -30,12 +30,11 @@ lying kind lent = do
 
 -- the mesh is read from the lists
 abbrev pub Lies : Found → Declared.Kind → Sizes → List ℕ → Type 0
-Lies (Found.Mesh k s p) kind lent bytes =
+Lies (Found.Mesh k s) kind lent bytes =
     (k ≡ kind)
     × (lying (kindOf kind) lent (drop 2 bytes) ≡ read (record { kind = kindOf kind; mesh = meshAt (kindOf kind) s bytes }) [])
     × Lain (kindOf kind) s bytes
     × Fits s lent
-    × (p ≡ placesOf (kindOf kind) s)
 Lies (Found.Refused n) kind lent bytes = lying (kindOf kind) lent (drop 2 bytes) ≡ stop n
 
 -- 4: bytes left over

@@ -22,8 +22,8 @@ use Rattle.fields.specs.Fields.{wordAt, vertexAt, wide, elementAt}
 use Rattle.fields.specs.Listed.{Listed}
 use Rattle.reading.specs.Parts.{takenOf, Curved}
 use Rattle.reading.specs.Walk.{lentOf, Walks}
-use Rattle.reading.specs.Picked.{headerOf, refusalOf, sizesIn, placesIn, listsIn, foundIn, foundOf}
-use Rattle.reading.specs.Places.{placesOf, Finds}
+use Rattle.reading.specs.Picked.{headerOf, refusalOf, sizesIn, listsIn, foundIn, foundOf}
+use Rattle.reading.specs.Places.{Finds}
 use Rattle.reading.proofs.Lists.{Lies, stops, at1, at2, at3, at4, at5, vertices-stop, points-stop, lines-stop, areas-stop, volumes-stop, curves-stop, sizes, left-over, all-read, all-lain, all-fits}
 use Rattle.reading.proofs.Header.{Opens, header-opens, figure-stops, figure-finds}
 
@@ -87,10 +87,6 @@ module _ (kind : Kind) (lent : Sizes) (bytes : List ℕ) (w : Walked) (here : w 
               unfolding sizesIn
               sizes-are = rw (qv .0, qp .0, ql .0, qa .0, qs .0, ec) refl
 
-              places-are : placesIn w ≡ placesOf K all
-              unfolding placesIn
-              places-are = rw (qv .1, qp .1, ql .1, qa .1, qs .1) refl
-
               finished : (x : ℕ) → w .left .field ≡ Value x → refusalOf w ≡ Ended.Finished
               unfolding refusalOf
               finished x e = rw (ev, ep, el, ea, es, ec, e) refl
@@ -102,8 +98,8 @@ module _ (kind : Kind) (lent : Sizes) (bytes : List ℕ) (w : Walked) (here : w 
               by-left : (x : Field) → w .left .field ≡ x → Picked
               by-left (Value x) e =
                   let h = rw (e, c .goes) at (f .left) in
-                  rw (finished x e, sizes-are, places-are)
-                  (refl, all-read K lent bytes n v np p nl l na a ns s (w .curves .n) (c .counts) nv (c .all) h, all-lain K lent bytes n v np p nl l na a ns s (w .curves .n) (c .counts) nv (c .all) h, all-fits K lent bytes n v np p nl l na a ns s (w .curves .n) (c .counts) nv (c .all), refl)
+                  rw (finished x e, sizes-are)
+                  (refl, all-read K lent bytes n v np p nl l na a ns s (w .curves .n) (c .counts) nv (c .all) h, all-lain K lent bytes n v np p nl l na a ns s (w .curves .n) (c .counts) nv (c .all) h, all-fits K lent bytes n v np p nl l na a ns s (w .curves .n) (c .counts) nv (c .all))
               by-left (Refused k) e =
                   let h = rw (e, c .goes) at (f .left) in
                   refused k (left-stops k e) (rw (h .0) (left-over K lent bytes n v np p nl l na a ns s (w .curves .n) (c .counts) nv (c .all) (h .1)))

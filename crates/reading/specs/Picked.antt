@@ -12,7 +12,6 @@ use Rattle.geom.specs.declared.kind.Kind.the-variants.{Cubes, Simplices}
 use Rattle.fields.specs.declared.field.Field.{Field}
 use Rattle.fields.specs.declared.field.Field.the-variants.{Value, Refused}
 use Rattle.reading.specs.declared.walk.Walked.{Walked}
-use Rattle.reading.specs.declared.judging.Places.{Places}
 use Rattle.reading.specs.declared.judging.Found.{Found}
 use Rattle.reading.specs.declared.judging.Found.the-variants as Found
 
@@ -58,18 +57,8 @@ sizesIn w =
       «curve_vertices» = valueOf (w .curves .field);
     }
 
-unfoldable pub placesIn : Walked → Places
-placesIn w =
-    record {
-      points = w .vertices .at;
-      lines = w .points .at;
-      areas = w .lines .at;
-      volumes = w .areas .at;
-      curves = w .volumes .at;
-    }
-
 abbrev pub listsIn : Ended → Kind → Walked → Found
-listsIn Ended.Finished kind w = Found.Mesh kind (sizesIn w) (placesIn w)
+listsIn Ended.Finished kind w = Found.Mesh kind (sizesIn w)
 listsIn (Ended.Refused n) kind w = Found.Refused n
 
 abbrev pub foundIn : Opened → Walked → Found

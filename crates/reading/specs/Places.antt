@@ -12,7 +12,6 @@ use Rattle.geom.specs.Mesh.{Mesh, sizesOf}
 use Rattle.geom.specs.Memory.{areaCorners, volumeCorners}
 use Rattle.geom.specs.File.{read, stop, figure}
 use Rattle.fields.specs.Fields.{wordAt, verticesAt, numbersAt, wide, elementsAt, curvePlace, curvesAt}
-use Rattle.reading.specs.declared.judging.Places.{Places}
 use Rattle.reading.specs.declared.judging.Found.{Found}
 use Rattle.reading.specs.declared.judging.Found.the-variants as Found
 
@@ -53,17 +52,6 @@ meshAt kind s bytes =
           };
     }
 
--- where each list stands, that of the vertices left out
-abbrev pub placesOf : Kind → Sizes → Places
-placesOf kind s =
-    record {
-      points = pointsPlace s;
-      lines = linesPlace s;
-      areas = areasPlace s;
-      volumes = volumesPlace kind s;
-      curves = curvesPlace kind s;
-    }
-
 -- ---- what is found
 
 -- each list fits its lent cells
@@ -84,12 +72,11 @@ pub record Lain (kind : Kind) (s : Sizes) (bytes : List ℕ) : Type 0 where
   pub some : (i : ℕ) → i < s .curves → 0 < wordAt bytes (curvePlace bytes (curvesPlace kind s + 4) i + 4)
 
 -- the mesh is read from the file
-pub record Figured (kind : Kind) (s : Sizes) (p : Places) (lent : Kind → Sizes) (bytes : List ℕ) : Type 0 where
+pub record Figured (kind : Kind) (s : Sizes) (lent : Kind → Sizes) (bytes : List ℕ) : Type 0 where
   pub reads : figure lent bytes ≡ read (record { kind = kind; mesh = meshAt kind s bytes }) []
   pub lain : Lain kind s bytes
   pub fits : Fits s (lent kind)
-  pub places : p ≡ placesOf kind s
 
 abbrev pub Finds : Found → (Kind → Sizes) → List ℕ → Type 0
-Finds (Found.Mesh k s p) lent bytes = Figured (kindOf k) s p lent bytes
+Finds (Found.Mesh k s) lent bytes = Figured (kindOf k) s lent bytes
 Finds (Found.Refused n) lent bytes = figure lent bytes ≡ stop n

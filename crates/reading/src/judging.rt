@@ -4,7 +4,7 @@ ghost use mathlib.Core.Path.{_≡_};
 ghost use Rattle.geom.specs.Book as Book;
 ghost use Rattle.judge.specs.Counts.{cellsOf};
 ghost use Rattle.reading.specs.Places.{Finds};
-ghost use Rattle.reading.specs.Picked.{kindIn, headerOf, thenOf, refusalOf, valueOf, sizesIn, placesIn, listsIn, foundOf};
+ghost use Rattle.reading.specs.Picked.{kindIn, headerOf, thenOf, refusalOf, valueOf, sizesIn, listsIn, foundOf};
 use crate::part::Taken;
 use crate::walk::Walked;
 use crate::walk::walk;
@@ -15,22 +15,9 @@ use geom::answer::Sizes;
 use geom::kind::Kind;
 use judge::counts::Lengths;
 
-// Where the reader stood before each list, that of the vertices left out, which stands behind the header.
-pub struct Places {
-    pub points: usize,
-    pub lines: usize,
-    pub areas: usize,
-    pub volumes: usize,
-    pub curves: usize,
-}
-
-// What a file is found to be: a mesh of a kind, with the sizes of its lists and their places, or refused with the number.
+// What a file is found to be: a mesh of a kind, with the sizes of its lists, or refused with the number.
 pub enum Found {
-    Mesh {
-        kind: Kind,
-        sizes: Sizes,
-        places: Places,
-    },
+    Mesh { kind: Kind, sizes: Sizes },
     Refused(u8),
 }
 
@@ -120,19 +107,6 @@ pub fn sizes_in(w: Walked) -> Sizes
     }
 }
 
-// Each list stands where the one before it was left.
-pub fn places_in(w: Walked) -> Places
-    ensures { λ r. ⌜ r ≡ placesIn w ⌝ }
-{
-    Places {
-        points: w.vertices.at,
-        lines: w.points.at,
-        areas: w.lines.at,
-        volumes: w.areas.at,
-        curves: w.volumes.at,
-    }
-}
-
 // The lists of a mesh of a kind.
 pub fn lists_of(kind: Kind, w: Walked) -> Found
     ensures { λ r. ⌜ r ≡ listsIn (refusalOf w) kind w ⌝ }
@@ -141,7 +115,6 @@ pub fn lists_of(kind: Kind, w: Walked) -> Found
         Ended::Finished => Found::Mesh {
             kind,
             sizes: sizes_in(w),
-            places: places_in(w),
         },
         Ended::Refused(n) => Found::Refused(n),
     }

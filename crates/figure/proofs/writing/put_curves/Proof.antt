@@ -1,16 +1,19 @@
 -- `figure::writing::put_curves` meets its contract: the curves passed were written. Assumes nothing.
 use native.Mathlib.Omega.{arith}
-use Prim.Native.Nat.{_-_}
-use Rattle.figure.proofs.Strings.{Stringing, stringing-start, stringing-rows, stringing-words, stringing-next, stringing-on, stringing-done}
+use Prim.Native.Nat.{_+_, _-_}
+use Rattle.figure.proofs.Strings.{Stringing, begins, stringing-start, stringing-rows, stringing-words, stringing-next, stringing-on, stringing-done}
 use borrow.Author.Needs.{needs}
 use Rattle.figure.proofs.writing.put_curves.Statement.{statement}
 use Rattle.figure.proofs.writing.put_curves.Tie as tie
 
 abbrev Inv-loop : tie.InvT-loop
-Inv-loop file at curves₀ steps₀ n place₀ from₀ i₀ curves steps place from i = Stringing file at curves₀ steps₀ curves steps n i place from
+Inv-loop file at curves₀ steps₀ n place₀ from₀ i₀ curves steps place from i = Stringing file (at + 4) curves₀ steps₀ curves steps n i place from
 
 abbrev μ-loop : tie.MeasureT-loop
 μ-loop file at curves₀ steps₀ n place₀ from₀ i₀ curves steps place from i = n - i
+
+add-place : tie.Need-add-place Inv-loop μ-loop
+add-place c = omega (arith, begins _ _ _ _ _ (c .before .before .before .pre), c .before .before .before .good)
 
 loop-holds : tie.Need-loop-holds Inv-loop μ-loop
 loop-holds c = stringing-start _ _ _ _ _
@@ -21,11 +24,11 @@ put-curve-requires c κs = stringing-next _ _ _ _ _ _ _ _ _ _ (c .before .before
 mul-place : tie.Need-mul-place Inv-loop μ-loop
 mul-place c = let s = stringing-next _ _ _ _ _ _ _ _ _ _ (c .before .before .before .before .before .before .before .before .loop .inv) (c .before .before .before .before .before .before .before .before .before .before .before .before .pre) (c .before .before .before .before .before .before .before .loop-test .taken) in let w = c .before .before .before .before .put-curve .ensures .count in omega (arith, s .stand, w, c .before .before .before .before .before .before .before .before .before .before .before .before .good)
 
-add-place : tie.Need-add-place Inv-loop μ-loop
-add-place c = let s = stringing-next _ _ _ _ _ _ _ _ _ _ (c .before .before .before .before .before .before .before .before .loop .inv) (c .before .before .before .before .before .before .before .before .before .before .before .before .pre) (c .before .before .before .before .before .before .before .loop-test .taken) in let w = c .before .before .before .before .put-curve .ensures .count in omega (arith, s .stand, w, c .before .before .before .before .before .before .before .before .before .before .before .before .good)
-
 add-place-2 : tie.Need-add-place-2 Inv-loop μ-loop
 add-place-2 c = let s = stringing-next _ _ _ _ _ _ _ _ _ _ (c .before .before .before .before .before .before .before .before .loop .inv) (c .before .before .before .before .before .before .before .before .before .before .before .before .pre) (c .before .before .before .before .before .before .before .loop-test .taken) in let w = c .before .before .before .before .put-curve .ensures .count in omega (arith, s .stand, w, c .before .before .before .before .before .before .before .before .before .before .before .before .good)
+
+add-place-3 : tie.Need-add-place-3 Inv-loop μ-loop
+add-place-3 c = let s = stringing-next _ _ _ _ _ _ _ _ _ _ (c .before .before .before .before .before .before .before .before .loop .inv) (c .before .before .before .before .before .before .before .before .before .before .before .before .pre) (c .before .before .before .before .before .before .before .loop-test .taken) in let w = c .before .before .before .before .put-curve .ensures .count in omega (arith, s .stand, w, c .before .before .before .before .before .before .before .before .before .before .before .before .good)
 
 add-from : tie.Need-add-from Inv-loop μ-loop
 add-from c = let s = stringing-next _ _ _ _ _ _ _ _ _ _ (c .before .before .before .before .before .before .before .before .loop .inv) (c .before .before .before .before .before .before .before .before .before .before .before .before .pre) (c .before .before .before .before .before .before .before .loop-test .taken) in let w = c .before .before .before .before .put-curve .ensures .count in let l = stringing-words _ _ _ _ _ _ _ _ _ _ (c .before .before .before .before .before .before .before .before .loop .inv) in omega (arith, s .room, w, l, c .before .before .before .before .before .before .before .before .before .before .before .before .good)
@@ -54,11 +57,12 @@ put-curves-spec =
     (tie.spec
     Inv-loop
     μ-loop
+    add-place
     loop-holds
     put-curve-requires
     mul-place
-    add-place
     add-place-2
+    add-place-3
     add-from
     add-i
     loop-less

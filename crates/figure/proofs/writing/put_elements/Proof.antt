@@ -1,16 +1,20 @@
 -- `figure::writing::put_elements` meets its contract: the elements passed were written. Assumes nothing.
+use mathlib.Core.Path.{refl}
 use native.Mathlib.Omega.{arith}
-use Prim.Native.Nat.{_-_}
+use Prim.Native.Nat.{_+_, _-_}
 use Rattle.figure.proofs.Elements.{Elements, elements-start, elements-length, elements-on, elements-done, row-stands}
 use borrow.Author.Needs.{needs}
 use Rattle.figure.proofs.writing.put_elements.Statement.{statement}
 use Rattle.figure.proofs.writing.put_elements.Tie as tie
 
 abbrev Inv-loop : tie.InvT-loop
-Inv-loop file at out₀ corners n wide cell i₀ out i = Elements file at corners out₀ out n i
+Inv-loop file at out₀ corners n start wide cell i₀ out i = Elements file (at + 4) corners out₀ out n i
 
 abbrev μ-loop : tie.MeasureT-loop
-μ-loop file at out₀ corners n wide cell i₀ out i = n - i
+μ-loop file at out₀ corners n start wide cell i₀ out i = n - i
+
+add-start : tie.Need-add-start Inv-loop μ-loop
+add-start c = omega (arith, c .before .before .pre .stand, c .before .before .good)
 
 mul-wide : tie.Need-mul-wide Inv-loop μ-loop
 mul-wide c = search needs
@@ -45,11 +49,17 @@ loop-less c = search needs
 loop-again : tie.Need-loop-again Inv-loop μ-loop
 loop-again c = elements-on _ _ _ _ _ _ _ (c .before .before .before .before .before .loop .inv) _ (c .before .before .before .before .loop-test .taken) (c .before .before .put-element .ensures)
 
+mul-result : tie.Need-mul-result Inv-loop μ-loop
+mul-result c = omega (arith, c .before .before .before .before .pre .stand, c .before .before .before .before .good)
+
+add-result : tie.Need-add-result Inv-loop μ-loop
+add-result c = omega (arith, c .before .before .before .before .pre .stand, c .before .before .before .before .good)
+
 same-length : tie.Need-same-length Inv-loop μ-loop
 same-length c = elements-length _ _ _ _ _ _ _ (c .before .loop .inv)
 
 returns : tie.Need-returns Inv-loop μ-loop
-returns c = elements-done _ _ _ _ _ _ _ (c .before .loop .inv) (c .loop-test .left) (c .before .before .before .before .pre .room)
+returns c = (refl, elements-done _ _ _ _ _ _ _ (c .before .loop .inv) (c .loop-test .left) (c .before .before .before .before .pre .room))
 
 pub put-elements-spec : {M : Type 1} → statement M
 put-elements-spec =
@@ -57,6 +67,7 @@ put-elements-spec =
     (tie.spec
     Inv-loop
     μ-loop
+    add-start
     mul-wide
     add-wide
     add-cell
@@ -68,5 +79,7 @@ put-elements-spec =
     add-i
     loop-less
     loop-again
+    mul-result
+    add-result
     same-length
     returns)

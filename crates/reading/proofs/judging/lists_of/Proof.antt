@@ -13,14 +13,11 @@ enum-told c = search needs
 sizes-in-requires : tie.Need-sizes-in-requires
 sizes-in-requires c κs = search needs
 
-places-in-requires : tie.Need-places-in-requires
-places-in-requires c κs = search needs
-
 enum-known-n : tie.Need-enum-known-n
 enum-known-n c = search needs
 
 returns : tie.Need-returns
-returns c = rw (← c .before .before .before .before .refusal .ensures, c .before .before .enum-told .given .1, c .before .sizes-in .ensures, c .places-in .ensures) refl
+returns c = rw (← c .before .before .before .refusal .ensures, c .before .enum-told .given .1, c .sizes-in .ensures) refl
 
 returns-2 : tie.Need-returns-2
 returns-2 c = rw (← c .before .before .before .refusal .ensures, c .before .n .given .1) refl
@@ -32,7 +29,6 @@ lists-of-spec =
     refusal-requires
     enum-told
     sizes-in-requires
-    places-in-requires
     enum-known-n
     returns
     returns-2)
