@@ -6,14 +6,15 @@ ghost use lib.ListN.{length};
 ghost use mathlib.Core.List.{[], _∷_, map};
 ghost use Rattle.geom.specs.Book.{each};
 ghost use Rattle.geom.specs.Elements.{flat};
-ghost use Rattle.geom.specs.Cubes.{SQUARE-AXES, square as squareBy, cube as cubeBy};
+ghost use Rattle.geom.specs.Cubes.{SQUARE-AXES, SQUARE, square as squareBy, cube as cubeBy};
 ghost use Rattle.geom.specs.Memory.{firstOf, elementRow, elementOf};
 ghost use Rattle.book.specs.Cells.{pairsOf};
 ghost use Rattle.division.specs.Writing.{Begun, Extended, Passed};
+ghost use Rattle.division.specs.Shapes.{shapeOf, Shaped};
 use book::Asked;
 use division::Written;
-use division::elements::divide;
 use division::elements::divide_all;
+use division::elements::divide_from;
 use division::elements::middle;
 use geom::kind::Kind;
 
@@ -95,6 +96,10 @@ fn is_flat(a: u32, b: u32, c: u32, d: u32) -> bool
 fn square(
     old: &[u32],
     row: usize,
+    edges: &[usize],
+    order: &[usize],
+    table: &[usize],
+    axes: &[usize],
     new: &mut [u32],
     rows: usize,
     cells: usize,
@@ -104,6 +109,8 @@ fn square(
     base: usize,
 ) -> Written
     requires { ⌜ 5 * suc row ≤ length (now old) ⌝ }
+    requires { ⌜ Shaped 4 (now edges) (now order) (now table) (now axes) ⌝ }
+    requires { ⌜ shapeOf 4 (now edges) (now order) (now table) (now axes) ≡ SQUARE ⌝ }
     requires { ⌜ Begun 4 base room cells rows made (now new) (now book) ⌝ }
     ensures { λ r. ⌜ Extended 4 base room cells rows (squareBy base (pairsOf (now (book .entry)) made) (elementOf (elementRow 4 (now (old .entry)) row))) (now (new .entry)) (now (new .exit)) (now (book .exit)) r ⌝ }
 {
@@ -124,15 +131,16 @@ fn square(
         };
         return Written::Rows { rows, made: next };
     }
-    divide(
+    divide_from(
         Kind::Cubes,
         old,
         row,
+        1,
         4,
-        &SQUARE_EDGES,
-        &SQUARE_POINTS,
-        &SQUARE_ASSEMBLY_ORDER,
-        &SQUARE_AXES,
+        edges,
+        order,
+        table,
+        axes,
         new,
         rows,
         cells,
@@ -141,6 +149,63 @@ fn square(
         room,
         base,
     )
+}
+
+// Squares in list order, by their tables, which are laid out once for all of them.
+fn squares_by(
+    old: &[u32],
+    count: usize,
+    edges: &[usize],
+    order: &[usize],
+    table: &[usize],
+    axes: &[usize],
+    new: &mut [u32],
+    cells: usize,
+    book: &mut [u32],
+    made: usize,
+    room: usize,
+    base: usize,
+) -> Written
+    requires { ⌜ 5 * count ≤ length (now old) ⌝ }
+    requires { ⌜ Shaped 4 (now edges) (now order) (now table) (now axes) ⌝ }
+    requires { ⌜ shapeOf 4 (now edges) (now order) (now table) (now axes) ≡ SQUARE ⌝ }
+    requires { ⌜ Begun 4 base room cells 0 made (now new) (now book) ⌝ }
+    ensures { λ r. ⌜ Passed base room cells (each (squareBy base) (pairsOf (now (book .entry)) made) (map elementOf (firstOf (elementRow 4 (now (old .entry))) count))) (now (new .entry)) (now (new .exit)) (now (book .exit)) r ⌝ }
+{
+    let mut rows = 0;
+    let mut entries = made;
+    let mut i = 0;
+    while i < count {
+        let written = square(
+            old,
+            i,
+            edges,
+            order,
+            table,
+            axes,
+            new,
+            rows,
+            cells,
+            book,
+            entries,
+            room,
+            base,
+        );
+        let Written::Rows {
+            rows: more,
+            made: next,
+        } = written
+        else {
+            return Written::Full;
+        };
+        rows = more;
+        entries = next;
+        i += 1;
+    }
+    Written::Rows {
+        rows,
+        made: entries,
+    }
 }
 
 // Squares in list order.
@@ -158,26 +223,20 @@ pub fn squares(
     requires { ⌜ Begun 4 base room cells 0 made (now new) (now book) ⌝ }
     ensures { λ r. ⌜ Passed base room cells (each (squareBy base) (pairsOf (now (book .entry)) made) (map elementOf (firstOf (elementRow 4 (now (old .entry))) count))) (now (new .entry)) (now (new .exit)) (now (book .exit)) r ⌝ }
 {
-    let mut rows = 0;
-    let mut entries = made;
-    let mut i = 0;
-    while i < count {
-        let written = square(old, i, new, rows, cells, book, entries, room, base);
-        let Written::Rows {
-            rows: more,
-            made: next,
-        } = written
-        else {
-            return Written::Full;
-        };
-        rows = more;
-        entries = next;
-        i += 1;
-    }
-    Written::Rows {
-        rows,
-        made: entries,
-    }
+    squares_by(
+        old,
+        count,
+        &SQUARE_EDGES,
+        &SQUARE_POINTS,
+        &SQUARE_ASSEMBLY_ORDER,
+        &SQUARE_AXES,
+        new,
+        cells,
+        book,
+        made,
+        room,
+        base,
+    )
 }
 
 // Cubes in list order.

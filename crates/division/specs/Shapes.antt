@@ -37,6 +37,10 @@ rowOf r = record { places = r .corners; parity = parityOf (r .parity) }
 unfoldable pub tableOf : ℕ → List ℕ → List Row
 tableOf corners table = map rowOf (firstOf (elementRow corners table) (length table / suc corners))
 
+-- the table of a line's two pieces: from its first end to the middle, and from there to its second
+abbrev pub LINE-TABLE : List ℕ
+LINE-TABLE = 0 ∷ 2 ∷ 0 ∷ 2 ∷ 1 ∷ 0 ∷ []
+
 -- one axis of a piece with so many corners: pairs of places, from a word on
 unfoldable pub axisFrom : ℕ → List ℕ → ℕ → List Pair
 axisFrom corners axes from =

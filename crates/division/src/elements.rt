@@ -2,7 +2,7 @@
 // table's order, and its pieces are rows of a table, flat ones left out. One set of functions for both kinds and every number of corners.
 ghost use mathlib.Core.Path.{_≡_};
 ghost use mathlib.Core.Bool.{true};
-ghost use Prim.Native.Nat.{suc, _+_, _*_, _/_, _≤_, _<_};
+ghost use Prim.Native.Nat.{ℕ, suc, _+_, _*_, _/_, _≤_, _<_};
 ghost use lib.ListN.{length, getD, take, drop};
 ghost use mathlib.Core.List.{map};
 ghost use Rattle.geom.specs.Parity.{times};
@@ -101,11 +101,11 @@ fn shut(
         let a = point_at(points, table, from + axes[axis + 2 * i]);
         let b = point_at(points, table, from + axes[axis + 2 * i + 1]);
         if a != b {
-            return false;
+            break;
         }
         i += 1;
     }
-    true
+    i == count
 }
 
 // Whether a piece is flat: its edges along one of the axes each have equal ends.
@@ -268,7 +268,7 @@ fn arrange(points: &mut [u32], count: usize, order: &[usize])
 }
 
 // Divides one element: its corners are read, its midpoints made, all points put in the order that the table speaks of, and its pieces written.
-pub fn divide(
+fn divide(
     kind: Kind,
     old: &[u32],
     row: usize,
@@ -319,10 +319,12 @@ pub fn divide(
     }
 }
 
-// Divides the elements of a list in list order, with one book through all.
-pub fn divide_all(
+// Divides so many elements of a list in list order, from a row on, behind the rows that stand, with one book through all. Every element is
+// divided here, so that `divide` has one caller and costs no call.
+pub fn divide_from(
     kind: Kind,
     old: &[u32],
+    first: usize,
     count: usize,
     corners: usize,
     edges: &[usize],
@@ -330,6 +332,7 @@ pub fn divide_all(
     table: &[usize],
     axes: &[usize],
     new: &mut [u32],
+    start: usize,
     cells: usize,
     book: &mut [u32],
     made: usize,
@@ -337,18 +340,18 @@ pub fn divide_all(
     base: usize,
 ) -> Written
     requires { ⌜ Shaped corners (now edges) (now order) (now table) (now axes) ⌝ }
-    requires { ⌜ suc corners * count ≤ length (now old) ⌝ }
-    requires { ⌜ Begun corners base room cells 0 made (now new) (now book) ⌝ }
-    ensures { λ r. ⌜ Passed base room cells (each (divideBy (kindOf kind) (shapeOf corners (now (edges .entry)) (now (order .entry)) (now (table .entry)) (now (axes .entry))) base) (pairsOf (now (book .entry)) made) (map elementOf (firstOf (elementRow corners (now (old .entry))) count))) (now (new .entry)) (now (new .exit)) (now (book .exit)) r ⌝ }
+    requires { ⌜ suc corners * (first + count) ≤ length (now old) ⌝ }
+    requires { ⌜ Begun corners base room cells start made (now new) (now book) ⌝ }
+    ensures { λ r. ⌜ Extended corners base room cells start (each (divideBy (kindOf kind) (shapeOf corners (now (edges .entry)) (now (order .entry)) (now (table .entry)) (now (axes .entry))) base) (pairsOf (now (book .entry)) made) (map elementOf (firstOf (λ (i : ℕ). elementRow corners (now (old .entry)) (first + i)) count))) (now (new .entry)) (now (new .exit)) (now (book .exit)) r ⌝ }
 {
-    let mut rows = 0;
+    let mut rows = start;
     let mut entries = made;
     let mut i = 0;
     while i < count {
         let written = divide(
             kind,
             old,
-            i,
+            first + i,
             corners,
             edges,
             order,
@@ -377,4 +380,46 @@ pub fn divide_all(
         rows,
         made: entries,
     }
+}
+
+// Divides the elements of a whole list, in list order.
+pub fn divide_all(
+    kind: Kind,
+    old: &[u32],
+    count: usize,
+    corners: usize,
+    edges: &[usize],
+    order: &[usize],
+    table: &[usize],
+    axes: &[usize],
+    new: &mut [u32],
+    cells: usize,
+    book: &mut [u32],
+    made: usize,
+    room: usize,
+    base: usize,
+) -> Written
+    requires { ⌜ Shaped corners (now edges) (now order) (now table) (now axes) ⌝ }
+    requires { ⌜ suc corners * count ≤ length (now old) ⌝ }
+    requires { ⌜ Begun corners base room cells 0 made (now new) (now book) ⌝ }
+    ensures { λ r. ⌜ Passed base room cells (each (divideBy (kindOf kind) (shapeOf corners (now (edges .entry)) (now (order .entry)) (now (table .entry)) (now (axes .entry))) base) (pairsOf (now (book .entry)) made) (map elementOf (firstOf (elementRow corners (now (old .entry))) count))) (now (new .entry)) (now (new .exit)) (now (book .exit)) r ⌝ }
+{
+    divide_from(
+        kind,
+        old,
+        0,
+        count,
+        corners,
+        edges,
+        order,
+        table,
+        axes,
+        new,
+        0,
+        cells,
+        book,
+        made,
+        room,
+        base,
+    )
 }

@@ -26,7 +26,7 @@ pub enum Stage {
     Full,
 }
 
-// Squares or triangles, by the kind.
+// Squares or triangles, by the kind. No tables are laid out for a list without entries.
 fn divide_areas(
     kind: Kind,
     old: &[u32],
@@ -42,13 +42,16 @@ fn divide_areas(
     requires { ⌜ Begun (areaCorners (kindOf kind)) base room cells 0 made (now new) (now book) ⌝ }
     ensures { λ r. ⌜ Passed base room cells (each (areaRule (kindOf kind) base) (pairsOf (now (book .entry)) made) (map elementOf (firstOf (elementRow (areaCorners (kindOf kind)) (now (old .entry))) count))) (now (new .entry)) (now (new .exit)) (now (book .exit)) r ⌝ }
 {
+    if count == 0 {
+        return Written::Rows { rows: 0, made };
+    }
     match kind {
         Kind::Cubes => squares(old, count, new, cells, book, made, room, base),
         Kind::Simplices => triangles(old, count, new, cells, book, made, room, base),
     }
 }
 
-// Cubes or tetrahedra, by the kind.
+// Cubes or tetrahedra, by the kind. No tables are laid out for a list without entries.
 fn divide_volumes(
     kind: Kind,
     old: &[u32],
@@ -64,6 +67,9 @@ fn divide_volumes(
     requires { ⌜ Begun (volumeCorners (kindOf kind)) base room cells 0 made (now new) (now book) ⌝ }
     ensures { λ r. ⌜ Passed base room cells (each (volumeRule (kindOf kind) base) (pairsOf (now (book .entry)) made) (map elementOf (firstOf (elementRow (volumeCorners (kindOf kind)) (now (old .entry))) count))) (now (new .entry)) (now (new .exit)) (now (book .exit)) r ⌝ }
 {
+    if count == 0 {
+        return Written::Rows { rows: 0, made };
+    }
     match kind {
         Kind::Cubes => cubes(old, count, new, cells, book, made, room, base),
         Kind::Simplices => tetrahedra(old, count, new, cells, book, made, room, base),

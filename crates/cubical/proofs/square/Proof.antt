@@ -1,11 +1,14 @@
--- `cubical::square` meets its contract: the tables are those of the definition, by computation. Assumes nothing.
-use mathlib.Core.Path.{refl, sym, _∙_, subst}
+-- `cubical::square` meets its contract: nothing, the midpoint of its diagonal alone, or its pieces. Assumes nothing.
+use mathlib.Core.Path.{sym, _∙_, ap, subst}
 use denote.Ref.{now}
-use Rattle.geom.specs.Book.{Made}
-use Rattle.geom.specs.Elements.{Element}
-use Rattle.geom.specs.Memory.{firstOf, elementRow}
+use Rattle.geom.specs.Book.{cubes, Made}
+use Rattle.geom.specs.Elements.{Element, Shape}
+use Rattle.geom.specs.Rules.{divide}
+use Rattle.geom.specs.Memory.{elementRow, elementOf}
+use Rattle.book.specs.Cells.{pairsOf}
 use Rattle.division.specs.Writing.{Extended}
-use Rattle.division.specs.Shapes.{below, edgeAt, edgesOf, orderOf, rowOf, tableOf, axisFrom, axesOf, shapeOf}
+use Rattle.division.specs.Shapes.{shapeOf}
+use Rattle.division.proofs.Listing.{one-row}
 use Rattle.book.proofs.Placing.{outgrows}
 use Rattle.cubical.proofs.Squared.{square-shut, square-crowded, square-flat, square-divided}
 use borrow.Author.Needs.{needs}
@@ -33,9 +36,9 @@ shared-slice-read-d c = search needs
 
 returns : tie.Need-returns
 returns c =
-    let s = c .before .before .before .before .before .before .args in
-    let q = c .before .before .before .before .before .before .pre in
-    square-shut (s .base) (s .row) (s .made) (now (s .old)) (now (s .book)) (q .0) (c .if1 .taken) (q .1 .ready) (q .1 .within) (q .1 .lent)
+    let s = c .before .before .before .before .before .before .before .before .before .before .args in
+    let q = c .before .before .before .before .before .before .before .before .before .before .pre in
+    square-shut (s .base) (s .row) (s .made) (now (s .old)) (now (s .book)) (q .0) (c .if1 .taken) (q .1 .1 .1 .ready) (q .1 .1 .1 .within) (q .1 .1 .1 .lent)
 
 add-is-flat : tie.Need-add-is-flat
 add-is-flat c = search needs
@@ -72,8 +75,8 @@ same-length c = search needs
 
 returns-2 : tie.Need-returns-2
 returns-2 c =
-    let s = c .before .before .before .before .before .before .before .before .before .before .before .before .before .before .before .before .args in
-    let q = c .before .before .before .before .before .before .before .before .before .before .before .before .before .before .before .before .pre in
+    let s = c .before .before .before .before .before .before .before .before .before .before .before .before .before .before .before .before .before .before .before .before .args in
+    let q = c .before .before .before .before .before .before .before .before .before .before .before .before .before .before .before .before .before .before .before .before .pre in
     let f = sym (c .before .before .before .before .before .before .before .is-flat .ensures) ∙ c .before .before .before .before .before .before .if2 .taken in
     square-crowded (s .base) (s .row) (s .made) (now (s .old)) (now (s .book)) (q .0) (c .before .before .before .before .before .before .before .before .before .before .if1 .left) (s .room) (s .cells) (s .rows) f (outgrows (rw (c .enum-told .given .1) at (c .before .before .before .before .middle .ensures)))
 
@@ -82,26 +85,15 @@ same-length-2 c = search needs
 
 returns-3 : tie.Need-returns-3
 returns-3 c =
-    let s = c .before .before .before .before .before .before .before .before .before .before .before .before .before .before .before .before .before .args in
-    let q = c .before .before .before .before .before .before .before .before .before .before .before .before .before .before .before .before .before .pre in
+    let s = c .before .before .before .before .before .before .before .before .before .before .before .before .before .before .before .before .before .before .before .before .before .args in
+    let q = c .before .before .before .before .before .before .before .before .before .before .before .before .before .before .before .before .before .before .before .before .before .pre in
     let f = sym (c .before .before .before .before .before .before .before .before .is-flat .ensures) ∙ c .before .before .before .before .before .before .before .if2 .taken in
-    square-flat (s .base) (s .row) (s .made) (now (s .old)) (now (s .book)) (q .0) (c .before .before .before .before .before .before .before .before .before .before .before .if1 .left) f ((rw (c .before .asked .given .1) at (c .before .before .before .before .before .middle .ensures)) .placed) (q .1 .within) (q .1 .lent)
+    square-flat (s .base) (s .row) (s .made) (now (s .old)) (now (s .book)) (q .0) (c .before .before .before .before .before .before .before .before .before .before .before .if1 .left) f ((rw (c .before .asked .given .1) at (c .before .before .before .before .before .middle .ensures)) .placed) (q .1 .1 .1 .within) (q .1 .1 .1 .lent)
 
-slice-aggregate-divide : tie.Need-slice-aggregate-divide
-slice-aggregate-divide c = search needs
-
-slice-aggregate-divide-2 : tie.Need-slice-aggregate-divide-2
-slice-aggregate-divide-2 c = search needs
-
-slice-aggregate-divide-3 : tie.Need-slice-aggregate-divide-3
-slice-aggregate-divide-3 c = search needs
-
-slice-aggregate-divide-4 : tie.Need-slice-aggregate-divide-4
-slice-aggregate-divide-4 c = search needs
-
-divide-requires : tie.Need-divide-requires
-unfolding below orderOf
-divide-requires c κs = (record { some = omega arith; few = omega arith; ends = refl; made = refl; all = refl; places = refl; along = refl }, c .before .before .before .before .before .before .before .before .before .before .before .before .before .before .before .before .pre)
+divide-from-requires : tie.Need-divide-from-requires
+divide-from-requires c κs =
+    let q = c .before .before .before .before .before .before .before .before .before .before .before .before .before .before .before .before .pre in
+    (q .1 .0, (omega (arith, q .0), q .1 .1 .1))
 
 same-length-3 : tie.Need-same-length-3
 same-length-3 c = search needs
@@ -110,13 +102,16 @@ same-length-4 : tie.Need-same-length-4
 same-length-4 c = search needs
 
 returns-4 : tie.Need-returns-4
-unfolding shapeOf edgesOf edgeAt orderOf tableOf axesOf axisFrom rowOf elementRow firstOf
 returns-4 c =
     let s = c .before .before .before .before .before .before .before .before .before .before .before .before .before .before .before .before .before .before .before .before .before .args in
     let q = c .before .before .before .before .before .before .before .before .before .before .before .before .before .before .before .before .before .before .before .before .before .pre in
-    let f = sym (c .before .before .before .before .before .before .before .before .before .before .before .before .is-flat .ensures) ∙ c .before .before .before .before .before .before .before .before .before .before .before .if2 .left in
-    subst (λ (m : Made Element). Extended 4 (s .base) (s .room) (s .cells) (s .rows) m (now (s .new)) (c .before .before .before .before .divide .last .1 .1 .1 .1 .1 .1 .1 .1 .0) (c .before .before .before .before .divide .last .1 .1 .1 .1 .1 .1 .1 .1 .1 .1 .1 .0) (c .before .before .before .before .divide .result))
-    (sym (square-divided (s .base) (s .row) (s .made) (now (s .old)) (now (s .book)) (q .0) (c .before .before .before .before .before .before .before .before .before .before .before .before .before .before .before .if1 .left) f)) (c .before .before .before .before .divide .ensures)
+    let d = c .before .before .before .before .divide-from in
+    let f = sym (c .before .before .before .before .before .before .before .before .is-flat .ensures) ∙ c .before .before .before .before .before .before .before .if2 .left in
+    subst (λ (m : Made Element). Extended 4 (s .base) (s .room) (s .cells) (s .rows) m (now (s .new)) (d .last .1 .1 .1 .1 .1 .1 .1 .1 .1 .0) (d .last .1 .1 .1 .1 .1 .1 .1 .1 .1 .1 .1 .1 .0) (d .result))
+    (one-row 4 (divide cubes (shapeOf 4 (now (s .edges)) (now (s .order)) (now (s .table)) (now (s .axes))) (s .base)) (pairsOf (now (s .book)) (s .made)) (now (s .old)) (s .row)
+    ∙ ap (λ (t : Shape). divide cubes t (s .base) (pairsOf (now (s .book)) (s .made)) (elementOf (elementRow 4 (now (s .old)) (s .row)))) (q .1 .1 .0)
+    ∙ sym (square-divided (s .base) (s .row) (s .made) (now (s .old)) (now (s .book)) (q .0) (c .before .before .before .before .before .before .before .before .before .before .before .if1 .left) f))
+    (d .ensures)
 
 pub square-spec : {M : Type 1} → statement M
 square-spec =
@@ -143,11 +138,7 @@ square-spec =
     returns-2
     same-length-2
     returns-3
-    slice-aggregate-divide
-    slice-aggregate-divide-2
-    slice-aggregate-divide-3
-    slice-aggregate-divide-4
-    divide-requires
+    divide-from-requires
     same-length-3
     same-length-4
     returns-4)

@@ -1,88 +1,48 @@
--- `cubical::squares` meets its contract: a square a turn (`Listing`). Assumes nothing.
-use mathlib.Core.Path.{refl, _∙_}
-use Prim.Native.Nat.{_-_}
-use denote.Ref.{now}
-use Rattle.geom.specs.Cubes.{square}
-use Rattle.book.specs.Cells.{pairsOf}
-use Rattle.division.proofs.Listing.{Listing, listing-start, listing-on, listing-full, listing-done}
-use Rattle.cubical.proofs.Squared.{square-grows}
+-- `cubical::squares` meets its contract: the tables are those of the definition, by computation. Assumes nothing.
+use mathlib.Core.Path.{refl}
+use Rattle.geom.specs.Memory.{firstOf, elementRow}
+use Rattle.division.specs.Shapes.{below, edgeAt, edgesOf, orderOf, rowOf, tableOf, axisFrom, axesOf, shapeOf}
 use borrow.Author.Needs.{needs}
 use native.Mathlib.Omega.{arith}
 use Rattle.cubical.proofs.squares.Statement.{statement}
 use Rattle.cubical.proofs.squares.Tie as tie
 
-abbrev Inv-loop : tie.InvT-loop
-Inv-loop old count new₀ cells book₀ made room base rows₀ entries₀ i₀ new book rows entries i = Listing 4 base room cells (square base) (pairsOf book₀ made) old count new₀ book₀ i rows entries new book
+slice-aggregate-squares-by : tie.Need-slice-aggregate-squares-by
+slice-aggregate-squares-by c = search needs
 
-abbrev μ-loop : tie.MeasureT-loop
-μ-loop old count new₀ cells book₀ made room base rows₀ entries₀ i₀ new book rows entries i = count - i
+slice-aggregate-squares-by-2 : tie.Need-slice-aggregate-squares-by-2
+slice-aggregate-squares-by-2 c = search needs
 
-loop-holds : tie.Need-loop-holds Inv-loop μ-loop
-loop-holds c =
-    let s = c .before .before .before .args in
-    let q = c .before .before .before .pre in
-    listing-start 4 (s .base) (s .room) (s .cells) (square (s .base)) (pairsOf (now (s .book)) (s .made)) (now (s .old)) (s .count) refl (q .1)
+slice-aggregate-squares-by-3 : tie.Need-slice-aggregate-squares-by-3
+slice-aggregate-squares-by-3 c = search needs
 
-square-requires : tie.Need-square-requires Inv-loop μ-loop
-square-requires c κs = (omega (arith, c .before .before .loop-test .taken, c .before .before .before .before .before .before .before .pre .0), c .before .before .before .loop .inv .begun)
+slice-aggregate-squares-by-4 : tie.Need-slice-aggregate-squares-by-4
+slice-aggregate-squares-by-4 c = search needs
 
-enum-known-written : tie.Need-enum-known-written Inv-loop μ-loop
-enum-known-written c = search needs
+squares-by-requires : tie.Need-squares-by-requires
+unfolding below orderOf shapeOf edgesOf edgeAt tableOf axesOf axisFrom rowOf elementRow firstOf
+squares-by-requires c κs =
+    let q = c .before .before .before .before .before .before .before .before .before .pre in
+    (q .0, (record { some = omega arith; few = omega arith; ends = refl; made = refl; all = refl; places = refl; along = refl }, (refl, q .1)))
 
-enum-told : tie.Need-enum-told Inv-loop μ-loop
-enum-told c = search needs
+same-length : tie.Need-same-length
+same-length c = search needs
 
-same-length : tie.Need-same-length Inv-loop μ-loop
-same-length c = c .before .before .before .before .before .before .square .kept .1 .1 .0 ∙ c .before .before .before .before .before .before .before .before .before .before .loop .inv .long
+same-length-2 : tie.Need-same-length-2
+same-length-2 c = search needs
 
-same-length-2 : tie.Need-same-length-2 Inv-loop μ-loop
-same-length-2 c = c .before .before .before .before .before .before .square .kept .1 .1 .1 .1 .1 .0 ∙ c .before .before .before .before .before .before .before .before .before .before .loop .inv .kept
-
-returns : tie.Need-returns Inv-loop μ-loop
-returns c =
-    let s = c .before .before .before .before .before .before .before .before .before .before .before .before .before .before .args in
-    listing-full 4 (s .base) (s .room) (s .cells) (square (s .base)) (pairsOf (now (s .book)) (s .made)) (now (s .old)) (c .before .before .before .before .before .before .before .before .before .before .loop .inv) (square-grows (s .base)) (c .before .before .before .before .before .before .before .before .before .loop-test .taken)
-    (rw (c .enum-told .given .1) at (c .before .before .before .before .before .before .square .ensures))
-
-add-i : tie.Need-add-i Inv-loop μ-loop
-add-i c = search needs
-
-loop-less : tie.Need-loop-less Inv-loop μ-loop
-loop-less c = search needs
-
-loop-again : tie.Need-loop-again Inv-loop μ-loop
-loop-again c =
-    let s = c .before .before .before .before .before .before .before .before .before .before .before .before .before .before .before .args in
-    listing-on 4 (s .base) (s .room) (s .cells) (square (s .base)) (pairsOf (now (s .book)) (s .made)) (now (s .old)) (c .before .before .before .before .before .before .before .before .before .before .before .loop .inv) (c .before .before .before .before .before .before .before .before .before .before .loop-test .taken) (c .before .before .before .before .before .before .before .square .kept .1 .1 .0)
-    (c .before .before .before .before .before .before .before .square .kept .1 .1 .1 .1 .1 .0) (rw (c .before .written .given .1) at (c .before .before .before .before .before .before .before .square .ensures))
-
-same-length-3 : tie.Need-same-length-3 Inv-loop μ-loop
-same-length-3 c = c .before .loop .inv .long
-
-same-length-4 : tie.Need-same-length-4 Inv-loop μ-loop
-same-length-4 c = c .before .loop .inv .kept
-
-returns-2 : tie.Need-returns-2 Inv-loop μ-loop
-returns-2 c =
-    let s = c .before .before .before .before .before .args in
-    listing-done 4 (s .base) (s .room) (s .cells) (square (s .base)) (pairsOf (now (s .book)) (s .made)) (now (s .old)) (c .before .loop .inv) (c .loop-test .left)
+returns : tie.Need-returns
+returns c = c .before .before .before .before .squares-by .ensures
 
 pub squares-spec : {M : Type 1} → statement M
 squares-spec =
     tie.close
     (tie.spec
-    Inv-loop
-    μ-loop
-    loop-holds
-    square-requires
-    enum-known-written
-    enum-told
+    slice-aggregate-squares-by
+    slice-aggregate-squares-by-2
+    slice-aggregate-squares-by-3
+    slice-aggregate-squares-by-4
+    squares-by-requires
     same-length
     same-length-2
-    returns
-    add-i
-    loop-less
-    loop-again
-    same-length-3
-    same-length-4
-    returns-2)
+    returns)

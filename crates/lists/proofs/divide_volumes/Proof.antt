@@ -1,21 +1,31 @@
 -- `lists::divide_volumes` meets its contract: each kind has its rule. Assumes nothing.
 use Rattle.geom.specs.Cubes.{cube}
 use Rattle.geom.specs.Simplices.{tetrahedron}
+use denote.Ref.{now}
+use Rattle.geom.specs.Kinds.{kindOf}
+use Rattle.geom.specs.Memory.{volumeCorners, elementRow}
+use Rattle.geom.specs.Between.{volumeRule}
+use Rattle.division.proofs.Listing.{listed-none}
 use borrow.Author.Needs.{needs}
 use Rattle.lists.proofs.divide_volumes.Statement.{statement}
 use Rattle.lists.proofs.divide_volumes.Tie as tie
+
+returns : tie.Need-returns
+returns c =
+    let s = c .before .before .before .before .args in
+    listed-none (s .base) (s .room) (s .cells) (volumeRule (kindOf (s .kind)) (s .base)) (elementRow (volumeCorners (kindOf (s .kind))) (now (s .old))) (c .if1 .taken) (c .before .before .before .before .pre .1 .ready)
 
 enum-told : tie.Need-enum-told
 enum-told c = search needs
 
 cubes-requires : tie.Need-cubes-requires
-cubes-requires c κs = rw (c .before .before .enum-told .given .1) at (c .before .before .before .before .before .before .before .pre)
+cubes-requires c κs = rw (c .before .before .enum-told .given .1) at (c .before .before .before .before .before .before .before .before .pre)
 
 enum-told-2 : tie.Need-enum-told-2
 enum-told-2 c = search needs
 
 tetrahedra-requires : tie.Need-tetrahedra-requires
-tetrahedra-requires c κs = rw (c .before .before .enum-told2 .given .1) at (c .before .before .before .before .before .before .before .pre)
+tetrahedra-requires c κs = rw (c .before .before .enum-told2 .given .1) at (c .before .before .before .before .before .before .before .before .pre)
 
 same-length : tie.Need-same-length
 same-length c = search needs
@@ -23,9 +33,9 @@ same-length c = search needs
 same-length-2 : tie.Need-same-length-2
 same-length-2 c = search needs
 
-returns : tie.Need-returns
+returns-2 : tie.Need-returns-2
 unfolding cube tetrahedron
-returns c = rw (c .before .before .before .before .before .before .before .enum-told .given .1) (c .before .before .before .before .cubes .ensures)
+returns-2 c = rw (c .before .before .before .before .before .before .before .enum-told .given .1) (c .before .before .before .before .cubes .ensures)
 
 same-length-3 : tie.Need-same-length-3
 same-length-3 c = search needs
@@ -33,21 +43,22 @@ same-length-3 c = search needs
 same-length-4 : tie.Need-same-length-4
 same-length-4 c = search needs
 
-returns-2 : tie.Need-returns-2
+returns-3 : tie.Need-returns-3
 unfolding cube tetrahedron
-returns-2 c = rw (c .before .before .before .before .before .before .before .enum-told2 .given .1) (c .before .before .before .before .tetrahedra .ensures)
+returns-3 c = rw (c .before .before .before .before .before .before .before .enum-told2 .given .1) (c .before .before .before .before .tetrahedra .ensures)
 
 pub divide-volumes-spec : {M : Type 1} → statement M
 divide-volumes-spec =
     tie.close
     (tie.spec
+    returns
     enum-told
     cubes-requires
     enum-told-2
     tetrahedra-requires
     same-length
     same-length-2
-    returns
+    returns-2
     same-length-3
     same-length-4
-    returns-2)
+    returns-3)

@@ -1,12 +1,14 @@
 -- `division::elements::shut` meets its contract: an edge a turn (`Shutting`). Assumes nothing.
 use mathlib.Core.Path.{_∙_}
-use Prim.Native.Nat.{_-_}
+use mathlib.Core.Logic.{⊎-elim}
+use Prim.Native.Nat.{_-_, _/_}
 use denote.Ref.{now}
 use lib.ListN.{length, take, drop}
 use Rattle.geom.specs.Elements.{pick}
 use Rattle.division.proofs.Tables.{below-at}
 use Rattle.division.proofs.Flats.{corner-at, Shutting, ShutTurn, shut-turn, shutting-start, shutting-on, shutting-open, shutting-done}
 use native.Mathlib.Omega.{arith}
+use borrow.Author.Tests.{eq-eqb, ne-eqb}
 use Rattle.division.proofs.elements.shut.Statement.{statement}
 use Rattle.division.proofs.elements.shut.Tie as tie
 
@@ -72,14 +74,6 @@ point-at-requires-2 c κs =
     let t = knows (c .before .before .before) in
     (t .far, below-at (length (now (s .points))) (now (s .table)) (c .before .before .before .before .before .before .before .before .pre .0 .places) _ (t .far))
 
-returns : tie.Need-returns Inv-loop μ-loop
-returns c =
-    let s = c .before .before .before .before .before .before .before .before .before .before .args in
-    let t = knows (c .before .before .before .before .before) in
-    let a = c .before .before .before .point-at .ensures ∙ corner-at (now (s .points)) (now (s .table)) (s .from) (s .corners) _ (t .row) (t .first) in
-    let b = c .before .point-at2 .ensures ∙ corner-at (now (s .points)) (now (s .table)) (s .from) (s .corners) _ (t .row) (t .second) in
-    shutting-open (c .before .before .before .before .before .before .loop .inv) (t .turn) a b (c .if1 .taken)
-
 add-i : tie.Need-add-i Inv-loop μ-loop
 add-i c = omega (arith, knows (c .before .before .before .before .before), c .before .before .before .before .before .before .before .before .before .before .good)
 
@@ -94,8 +88,19 @@ loop-again c =
     let b = c .before .point-at2 .ensures ∙ corner-at (now (s .points)) (now (s .table)) (s .from) (s .corners) _ (t .row) (t .second) in
     shutting-on (c .before .before .before .before .before .before .loop .inv) (t .turn) a b (c .if1 .left)
 
-returns-2 : tie.Need-returns-2 Inv-loop μ-loop
-returns-2 c = shutting-done (c .before .loop .inv) (c .loop-test .left)
+-- the test after the loop: all edges were closed, or the loop was left at one that was not
+returns : tie.Need-returns Inv-loop μ-loop
+returns c =
+    let s = c .before .before .before .before .before .args in
+    let g = c .before .loop .inv in
+    ⊎-elim
+    (λ d. eq-eqb (c .before .loop .i) (s .corners / 2) (omega (arith, g .within, d .left)) ∙ shutting-done g (d .left))
+    (λ d.
+    let t = knows (record { before = c .before; loop-test = d .0 }) in
+    let a = d .2 .ensures ∙ corner-at (now (s .points)) (now (s .table)) (s .from) (s .corners) _ (t .row) (t .first) in
+    let b = d .4 .ensures ∙ corner-at (now (s .points)) (now (s .table)) (s .from) (s .corners) _ (t .row) (t .second) in
+    ne-eqb (c .before .loop .i) (s .corners / 2) (λ e. omega (arith, t .turn)) ∙ shutting-open g (t .turn) a b (d .5 .taken))
+    (c .loop-test .came)
 
 pub shut-spec : {M : Type 1} → statement M
 shut-spec =
@@ -117,8 +122,7 @@ shut-spec =
     shared-slice-read-point-at-2
     add-point-at-5
     point-at-requires-2
-    returns
     add-i
     loop-less
     loop-again
-    returns-2)
+    returns)

@@ -1,5 +1,8 @@
 -- `division::lines::line` meets its contract: no room, known, no cells, or two pieces. Assumes nothing.
-use mathlib.Core.Path.{refl}
+use mathlib.Core.Path.{_≡_, refl, sym, subst}
+use mathlib.Core.Bool.{true}
+use mathlib.Core.List.{List}
+use Prim.Native.Nat.{ℕ}
 use denote.Ref.{now}
 use Rattle.geom.specs.Kinds.{kindOf}
 use Rattle.geom.specs.Memory.{firstOf, elementRow}
@@ -55,8 +58,8 @@ same-length c = search needs
 
 returns : tie.Need-returns
 returns c =
-    let s = c .before .before .before .before .before .before .before .before .before .before .before .before .before .args in
-    let q = c .before .before .before .before .before .before .before .before .before .before .before .before .before .pre in
+    let s = c .before .before .before .before .before .before .before .before .before .before .before .before .before .before .args in
+    let q = c .before .before .before .before .before .before .before .before .before .before .before .before .before .before .pre in
     line-crowded (kindOf (s .kind)) (s .base) (s .row) (s .made) (now (s .old)) (now (s .book)) (q .0) (s .room) (s .cells) (s .rows)
     (outgrows (rw (c .enum-told .given .1) at (c .before .before .before .before .middle .ensures)))
 
@@ -65,10 +68,10 @@ same-length-2 c = search needs
 
 returns-2 : tie.Need-returns-2
 returns-2 c =
-    let s = c .before .before .before .before .before .before .before .before .before .before .before .before .before .before .before .args in
-    let q = c .before .before .before .before .before .before .before .before .before .before .before .before .before .before .before .pre in
+    let s = c .before .before .before .before .before .before .before .before .before .before .before .before .before .before .before .before .args in
+    let q = c .before .before .before .before .before .before .before .before .before .before .before .before .before .before .before .before .pre in
     line-known (kindOf (s .kind)) (s .base) (s .row) (s .made) (now (s .old)) (now (s .book)) (q .0)
-    ((rw (c .before .before .asked .given .1) at (c .before .before .before .before .before .before .middle .ensures)) .placed) (c .if1 .taken) (q .1 .within) (q .1 .lent)
+    ((rw (c .before .before .asked .given .1) at (c .before .before .before .before .before .before .middle .ensures)) .placed) (c .if1 .taken) (q .1 .1 .within) (q .1 .1 .lent)
 
 slice-aggregate-assemble : tie.Need-slice-aggregate-assemble
 slice-aggregate-assemble c = search needs
@@ -76,14 +79,11 @@ slice-aggregate-assemble c = search needs
 slice-aggregate-assemble-2 : tie.Need-slice-aggregate-assemble-2
 slice-aggregate-assemble-2 c = search needs
 
-slice-aggregate-assemble-3 : tie.Need-slice-aggregate-assemble-3
-slice-aggregate-assemble-3 c = search needs
-
 assemble-requires : tie.Need-assemble-requires
 unfolding below
 assemble-requires c κs =
     let q = c .before .before .before .before .before .before .before .before .before .before .before .before .before .before .before .before .before .before .before .pre in
-    (record { some = omega arith; few = omega arith; places = refl; along = refl }, (q .1 .within, q .1 .lent))
+    (record { some = omega arith; few = omega arith; places = subst (λ (t : List ℕ). below 3 t ≡ true) (sym (q .1 .0)) refl; along = refl }, (q .1 .1 .within, q .1 .1 .lent))
 
 enum-known-filled : tie.Need-enum-known-filled
 enum-known-filled c = search needs
@@ -103,9 +103,9 @@ returns-3 c =
     let s = c .before .before .before .before .before .before .before .before .before .before .before .before .before .before .before .before .before .before .before .before .before .before .before .before .args in
     let q = c .before .before .before .before .before .before .before .before .before .before .before .before .before .before .before .before .before .before .before .before .before .before .before .before .pre in
     line-full (kindOf (s .kind)) (s .base) (s .row) (s .made) (now (s .old)) (now (s .book)) (q .0)
-    ((rw (c .before .before .before .before .before .before .before .before .before .before .before .asked .given .1) at (c .before .before .before .before .before .before .before .before .before .before .before .before .before .before .before .middle .ensures)) .placed) (s .cells) (s .rows)
-    (c .before .before .before .before .before .before .before .before .before .if1 .left) (c .before .before .before .before .before .before .before .before .before .before .before .before .before .before .before .before .before .parity-of .ensures)
-    (rw (c .enum-told2 .given .1) at (c .before .before .before .before .assemble .ensures))
+    ((rw (c .before .before .before .before .before .before .before .before .before .before .asked .given .1) at (c .before .before .before .before .before .before .before .before .before .before .before .before .before .before .middle .ensures)) .placed) (s .cells) (s .rows)
+    (c .before .before .before .before .before .before .before .before .if1 .left) (c .before .before .before .before .before .before .before .before .before .before .before .before .before .before .before .before .parity-of .ensures)
+    (rw (c .enum-told2 .given .1, q .1 .0) at (c .before .before .before .before .assemble .ensures))
 
 same-length-5 : tie.Need-same-length-5
 same-length-5 c = search needs
@@ -119,9 +119,9 @@ returns-4 c =
     let s = c .before .before .before .before .before .before .before .before .before .before .before .before .before .before .before .before .before .before .before .before .before .before .before .before .before .args in
     let q = c .before .before .before .before .before .before .before .before .before .before .before .before .before .before .before .before .before .before .before .before .before .before .before .before .before .pre in
     line-extends (kindOf (s .kind)) (s .base) (s .row) (s .made) (now (s .old)) (now (s .book)) (q .0)
-    ((rw (c .before .before .before .before .before .before .before .before .before .before .before .before .asked .given .1) at (c .before .before .before .before .before .before .before .before .before .before .before .before .before .before .before .before .middle .ensures)) .placed)
-    (c .before .before .before .before .before .before .before .before .before .before .if1 .left) (c .before .before .before .before .before .before .before .before .before .before .before .before .before .before .before .before .before .before .parity-of .ensures)
-    (rw (c .before .filled .given .1) at (c .before .before .before .before .before .assemble .ensures))
+    ((rw (c .before .before .before .before .before .before .before .before .before .before .before .asked .given .1) at (c .before .before .before .before .before .before .before .before .before .before .before .before .before .before .before .middle .ensures)) .placed)
+    (c .before .before .before .before .before .before .before .before .before .if1 .left) (c .before .before .before .before .before .before .before .before .before .before .before .before .before .before .before .before .before .parity-of .ensures)
+    (rw (c .before .filled .given .1, q .1 .0) at (c .before .before .before .before .before .assemble .ensures))
 
 pub line-spec : {M : Type 1} → statement M
 line-spec =
@@ -146,7 +146,6 @@ line-spec =
     returns-2
     slice-aggregate-assemble
     slice-aggregate-assemble-2
-    slice-aggregate-assemble-3
     assemble-requires
     enum-known-filled
     enum-told-2
