@@ -82,6 +82,7 @@ pub fn turned(flip: usize, parity: Parity) -> Parity
 }
 
 // Whether the edges of a piece along one axis each have equal ends. `from` is where the piece's row of the table begins, `axis` where the axis does.
+// The first edge that has not ends the loop, and the count tells: a `return` there takes a second test for each edge.
 fn shut(
     points: &[u32],
     corners: usize,
