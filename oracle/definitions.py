@@ -17,6 +17,8 @@ import tempfile
 
 SPECS = "Rattle.geom.specs"
 REFERENCE = "oracle/reference"
+# what geom stands on, as the last check left it: with it `rt dev` proves geom alone
+BELOW = ("target/rlib/numbers.rlib", "target/stamp/numbers")
 FLOATS = "toBits ofBits ofFields size units odd round add sub sum mul div ofInt lt le eq neg".split()
 HEADER = """use mathlib.Core.Path.{_≡_, refl}
 use mathlib.Core.List.{List, [], _∷_, flatMap, map}
@@ -91,8 +93,9 @@ def main():
         text += "\ncase%d : %s ≡ %s\nunfolding %s\ncase%d = refl\n" % (cases, found, answer, " ".join(names), cases)
         cases += 1
     with tempfile.TemporaryDirectory() as copy:
-        for part in ("crates.txt", "crates", "target"):
+        for part in ("crates.txt", "crates", *BELOW):
             if os.path.exists(part):
+                os.makedirs(os.path.dirname(os.path.join(copy, part)), exist_ok=True)
                 (shutil.copytree if os.path.isdir(part) else shutil.copy)(part, os.path.join(copy, part))
         proofs = os.path.join(copy, "crates/geom/proofs")
         open(os.path.join(proofs, "Held.antt"), "w").write(text)
