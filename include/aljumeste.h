@@ -125,7 +125,8 @@ void aljumeste_left_positions(
 
 /* Cuts cubes into simplices: at most two triangles (rows of 4) a square and six tetrahedra (rows of 5) a cube, in the order of the
  * squares and cubes. All else of the mesh stays as it is. `answer` becomes the sizes of the mesh of simplices; after a refusal those
- * stated. */
+ * stated. Cubes that close give tetrahedra that close: for faces without equal neighbours, and, where every tetrahedron has four different
+ * corners, for all. */
 uint8_t aljumeste_triangulate(
     const float *positions, size_t positions_words, const uint32_t *marks, size_t marks_words,
     const uint32_t *points, size_t points_words, const uint32_t *lines, size_t lines_words,

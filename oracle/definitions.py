@@ -4,7 +4,7 @@
     oracle/definitions.py [COUNT]      COUNT random meshes of each kind and each sort (6)
 
 The package oracle/reference makes random inputs and says what the Rust makes of them: what `sheet` prints (some of the inputs are damaged), the
-triangulation, and both normals. Each answer becomes an equation about the definitions, `sheet INPUT ≡ ANSWER`, in a copy of the repository, and
+triangulation, and both normals; and what document 02's U8 makes of the ledger of cubes. Each answer becomes an equation about the definitions, `sheet INPUT ≡ ANSWER`, in a copy of the repository, and
 antt proves it by computing both sides. One equation that does not hold is printed, and the exit status is 1.
 """
 import glob
@@ -24,7 +24,8 @@ HEADER = """use mathlib.Core.Path.{_≡_, refl}
 use mathlib.Core.List.{List, [], _∷_, flatMap, map}
 use Prim.Native.Nat.{ℕ}
 use lib.Ieee as Ieee
-use lib.ListN.{drop}
+use lib.IntN.{pos, negℤ}
+use lib.ListN.{drop, length}
 """
 HELPERS = """
 abbrev got : File.Read File.Figure → Mesh.Mesh
@@ -67,6 +68,15 @@ def normal_cells(answer, width):
     return [cell for row in rows for cell in ([0] * width if row == ["flat"] else [int(word, 16) for word in row])]
 
 
+def replaced_faces(given, answer):
+    """The triples of a ledger of cubes with each square replaced, and the number of each as it is read."""
+    rows = [[int(word) for word in line.split()[1:]] for line in bytes.fromhex(answer).decode().split("\n") if line.startswith("f ")]
+    mesh = "meshIn (%s)" % numbers(bytes.fromhex(given))
+    read = "Cutting.read (Cutting.replaced (length (%s .vertices)) (Ledger.ledger Book.cubes (%s .lists .volumes)))" % (mesh, mesh)
+    values = ["pos %d" % n if n >= 0 else "negℤ (pos %d)" % -n for *triple, n in rows]
+    return "map (%s) (%s)" % (read, numbers("(%s)" % numbers(triple) for *triple, n in rows)), numbers(values)
+
+
 def equations(count):
     for kind, seed in (("cubes", 1), ("simplices", 2)):
         inputs = reference("random", kind, seed, count, 5, 3, 1, 4)
@@ -78,6 +88,11 @@ def equations(count):
             meshes = ["Triangulation.triangulated (%s)" % mesh for mesh in meshes]
             for mesh, answer in zip(meshes, reference("answers", "triangulate", lines=inputs)):
                 yield "Listing.listing 0 (%s)" % mesh, numbers(bytes.fromhex(answer))
+            # one in some seven has an entry
+            many = reference("random", kind, seed + 4, 10 * count, 5, 3, 0, 0)
+            for given, answer in zip(many, reference("answers", "replaced", lines=many)):
+                if answer:
+                    yield replaced_faces(given, answer)
         for width in (3, 4):
             for mesh, answer in zip(meshes, reference("answers", "normals%d" % width, lines=inputs)):
                 cells = "flatMap Numbers-Normal.cells%d (Normals.normals%d (%s))" % (width, width, mesh)

@@ -61,7 +61,7 @@ fn one(kind: Kind) -> Element {
 }
 
 /// What bounds one cell of four dimensions: five tetrahedra, or eight cubes. A boundary has no boundary.
-fn boundary(kind: Kind) -> Vec<Element> {
+pub fn boundary(kind: Kind) -> Vec<Element> {
     match kind {
         Kind::Simplices => (0..5).map(without_corner).collect(),
         Kind::Cubes => (0..8).map(|i| side(i / 2, i % 2)).collect(),
@@ -138,7 +138,7 @@ fn above(volumes: &[Element]) -> usize {
 }
 
 /// A vertex at a place of its own.
-fn vertex(number: usize) -> Vertex {
+pub fn vertex(number: usize) -> Vertex {
     Vertex {
         bits: [1, 3, 9, 27].map(|power| ((number / power % 3) as f32).to_bits()),
         flags: 0,

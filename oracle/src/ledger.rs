@@ -14,7 +14,7 @@ use crate::{
 };
 use reference::{
     ledger::{ledger, refined, Ledger},
-    memory::judge_mesh,
+    memory::{judge_mesh, Bench},
     mesh::{Element, Kind, Mesh, Sizes},
     model::Model,
     random::Rng,
@@ -40,12 +40,16 @@ fn wrong(case: &Case) -> Option<String> {
     }
 }
 
-/// An accepted mesh, lent more than is needed, what is needed, or what only fewer passes need.
 fn draw(rng: &mut Rng, kind: Kind, way: usize) -> Case {
     let mesh = original(rng, kind, way);
     // A pass makes eight volumes of one.
     let most = if mesh.volumes.len() > 16 { 2 } else { 3 };
     let depth = rng.pick(&[0, 1, 1, 2, 2, 2, 3, 3]).min(most);
+    lent(rng, mesh, depth)
+}
+
+/// An accepted mesh, lent more than is needed, what is needed, or what only fewer passes need.
+pub fn lent(rng: &mut Rng, mesh: Mesh, depth: u8) -> Case {
     let smooth_time = rng.below(2) as u8;
     let cells = lending(rng, &needs(&mesh, depth, smooth_time == 1));
     let mut case = Case::new(mesh, &sizes(&cells), cells[7], depth, smooth_time);
@@ -97,22 +101,13 @@ pub fn check(case: &Case) -> Result<Seen, String> {
 
 /// What a caller is told, and the mesh that is left for it in the lent words.
 fn run(case: &Case) -> Result<(Told, Mesh), String> {
-    let mut desk = case.desk();
-    let kind = case.given.mesh.kind;
-    let told = exports::subdivide(
-        kind,
-        &mut desk,
-        &case.given.counts,
-        case.depth,
-        case.smooth_time,
-    );
-    let left = left(kind, &desk, &told)?;
-    Ok((told, left))
+    let (told, bench, sizes) = called(case)?;
+    Ok((told, bench.mesh(case.given.mesh.kind, &sizes)))
 }
 
 /// "n is the depth, or, where 10 stops the work, the number of passes before the one that it refuses": the answer's own count.
 /// Whether 10 was due is not asked here: `refinement` holds every answer against the original's.
-fn whole_passes(case: &Case, told: &Told) -> Result<usize, String> {
+pub fn whole_passes(case: &Case, told: &Told) -> Result<usize, String> {
     let (passes, depth) = (told.answer[0], usize::from(case.depth));
     match told.number {
         0 if passes == depth => Ok(passes),
@@ -121,11 +116,16 @@ fn whole_passes(case: &Case, told: &Told) -> Result<usize, String> {
     }
 }
 
-/// The mesh that the caller is handed: as many entries as the answer says, on the bench that the last whole pass wrote, "the first for an
-/// even count, the second for an odd one"; but for its curves, which no ledger asks and whose lengths need not add up in wrong words.
-fn left(kind: Kind, desk: &Desk, told: &Told) -> Result<Mesh, String> {
+/// What a caller is told, the bench that the last whole pass wrote, "the first for an even count, the second for an odd one", and the sizes of the mesh there; but
+/// for its curves, which no ledger asks and whose lengths need not add up in wrong words.
+pub fn called(case: &Case) -> Result<(Told, Bench, Sizes), String> {
+    let mut desk = case.desk();
+    let kind = case.given.mesh.kind;
+    let counts = &case.given.counts;
+    let told = exports::subdivide(kind, &mut desk, counts, case.depth, case.smooth_time);
     let [passes, ..] = told.answer;
-    let bench = [&desk.first, &desk.second][passes % 2];
+    let Desk { first, second, .. } = desk;
+    let bench = if passes % 2 == 0 { first } else { second };
     // The passes stand before the sizes; as cells, what is no list's stands behind them.
     let mut cells: Cells = told.answer;
     cells.rotate_left(1);
@@ -138,7 +138,7 @@ fn left(kind: Kind, desk: &Desk, told: &Told) -> Result<Mesh, String> {
         curve_verts: 0,
         ..sizes
     };
-    Ok(bench.mesh(kind, &asked))
+    Ok((told, bench, asked))
 }
 
 /// Demand 3 for a mesh handed in and the mesh left of it after so many passes: both ledgers, or in words where it fails.
@@ -157,7 +157,7 @@ fn hold(original: &Mesh, passes: usize, left: &Mesh) -> Result<(Ledger, Ledger),
 
 /// The refinement of faces, so many times, "the k-th time over the midpoints after pass k, as sections 2 to 4 make the book from the mesh
 /// handed in".
-fn put_through(original: &Mesh, passes: usize, mut faces: Ledger) -> Ledger {
+pub fn put_through(original: &Mesh, passes: usize, mut faces: Ledger) -> Ledger {
     let mut model = Model::new(original);
     for _ in 0..passes {
         model.lists();
@@ -167,14 +167,14 @@ fn put_through(original: &Mesh, passes: usize, mut faces: Ledger) -> Ledger {
 }
 
 /// Entry for entry; an entry that a ledger doesn't have is 0.
-fn same_ledger(ours: &Ledger, theirs: &Ledger) -> Result<(), String> {
+pub fn same_ledger(ours: &Ledger, theirs: &Ledger) -> Result<(), String> {
     let entry = |ledger: &Ledger, face: &Vec<u32>| ledger.get(face).copied().unwrap_or(0);
     let faces = ours.keys().chain(theirs.keys());
     for face in faces {
         let [is, expected] = [ours, theirs].map(|ledger| entry(ledger, face));
         if is != expected {
             return Err(format!(
-                "the entry of {face:?} is {is}, and by refined faces {expected}"
+                "the entry of {face:?} is {is}, and should be {expected}"
             ));
         }
     }

@@ -7,12 +7,13 @@
 //! geometries, for so many of each kind. `file SEED COUNT` reads so many files of both kinds, and `sheet SEED COUNT` gives so many inputs
 //! to the program of that name. `stored files` writes the files that the program `replay` reads, and `stored answers` what it must print.
 //! `bench` measures speed. `ledger SEED COUNT` refines so many meshes of each kind, and holds the ledgers of what is left against document
-//! 01's section 5.
+//! 01's section 5. `chain SEED COUNT` refines so many meshes of cubes, cuts what is left and refines that, and holds document 02's U8 against it.
 #![forbid(unsafe_code)]
 
 mod bench;
 mod block;
 mod case;
+mod chain;
 mod closed;
 mod crafted;
 mod damage;
@@ -117,6 +118,7 @@ fn main() -> ExitCode {
         ["bench", "one", what, size, side] => counted(what, size, side),
         ["ledger"] => both_kinds("1", "3000", ledger::compare),
         ["ledger", seed, cases] => both_kinds(seed, cases, ledger::compare),
+        ["chain", seed, cases] => chained(seed, cases),
         ["geometry", seed, cases] => both_kinds(seed, cases, geometries::compare),
         [what, seed, cases] => compared(what, seed, cases),
         _ => None,
@@ -125,7 +127,7 @@ fn main() -> ExitCode {
         Some(true) => ExitCode::SUCCESS,
         Some(false) => ExitCode::from(1),
         None => {
-            eprintln!("usage: cargo run --release -- all | spread | WHAT SEED COUNT | stored files | stored answers | bench [ENTRY | lines] | bench one WHAT SIZE SIDE | ledger [SEED COUNT] | geometry SEED COUNT");
+            eprintln!("usage: cargo run --release -- all | spread | WHAT SEED COUNT | stored files | stored answers | bench [ENTRY | lines] | bench one WHAT SIZE SIDE | ledger [SEED COUNT] | chain SEED COUNT | geometry SEED COUNT");
             eprintln!("KIND is cubes or simplices, ENTRY triangulation, normals3 or normals4, WHAT either, file or sheet, SIDE library, original or none");
             ExitCode::from(2)
         }
@@ -172,6 +174,13 @@ fn both_kinds(
         found.apart.is_none()
     });
     Some(agree == [true; 2])
+}
+
+/// Prints what random chains showed: whether all are as they should be.
+fn chained(seed: &str, cases: &str) -> Option<bool> {
+    let found = chain::compare(seed.parse().ok()?, cases.parse().ok()?);
+    found.print();
+    Some(found.apart.is_none())
 }
 
 fn counted(what: &str, size: &str, side: &str) -> Option<bool> {

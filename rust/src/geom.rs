@@ -188,7 +188,8 @@ impl SimplicialGeometry {
 // Triangulation
 
 impl CubicalGeometry {
-    /// The same mesh with every square cut into two triangles and every cube into six tetrahedra; pieces with equal neighbours are dropped.
+    /// The same mesh with every square cut into two triangles and every cube into six tetrahedra; pieces with equal neighbours are dropped. Cubes that
+    /// close give tetrahedra that close: for faces without equal neighbours, and, where every tetrahedron has four different corners, for all.
     ///
     /// # Errors
     /// 6, 7, 8 or 9 for what is wrong with the geometry, and 10 where triangles or tetrahedra would be over the limit.

@@ -19,6 +19,7 @@ use Rattle.geom.specs.Refusals.{Desk, handedIn, refinementVerdict, subdividedBy
 use Rattle.geom.specs.Triangulation.{Cuts, Triangulated, triangulationVerdict, triangulatedBy, triangulation}
 use Rattle.geom.specs.Between.{All}
 use Rattle.subdivision.specs.Entry.{Refines}
+use Rattle.triangulation.specs.Entry.{Triangulates}
 use Rattle.told.specs.Told.{Numbered}
 
 -- what holds of both cases holds of the one that is taken
@@ -78,20 +79,19 @@ triangulated-numbered accepted s m out n = n
 triangulated-numbered (refused k) s m out n = n
 
 pub triangulates-numbered : (a : Answer) (after : Cuts) (s : Sizes) (b : Bench) (out : Cuts)
-    → _≡_ {A = Triangulated} (record { outcome = outcomeOf a; out = after }) (triangulation s b out)
-    → Numbered (verdictOf (a .ended))
+    → Triangulates s b out (record { outcome = outcomeOf a; out = after }) → Numbered (verdictOf (a .ended))
 unfolding triangulation outcomeOf
 triangulates-numbered a after s b out q =
     subst
     (λ (t : Triangulated). Numbered (t .outcome .verdict))
-    (sym q)
+    (sym (q .answer))
     (triangulated-numbered (triangulationVerdict s b out) s _ out (cut-numbered s b out))
 
 pub exported-cut : (b : Bench) (before after : Cuts) (s handed : Sizes) (x y : Outcome) → handed ≡ s → y ≡ x
-    → _≡_ {A = Triangulated} (record { outcome = x; out = after }) (triangulation handed b before)
-    → _≡_ {A = Triangulated} (record { outcome = y; out = after }) (triangulation s b before)
+    → Triangulates handed b before (record { outcome = x; out = after }) → Triangulates s b before (record { outcome = y; out = after })
 exported-cut b before after s handed x y p q h =
-    ap (λ (o : Outcome). record { outcome = o; out = after }) q ∙ h ∙ ap (λ (t : Sizes). triangulation t b before) p
+    subst (λ (z : Sizes). Triangulates z b before (record { outcome = y; out = after })) p
+    (subst (λ (o : Outcome). Triangulates handed b before (record { outcome = o; out = after })) (sym q) h)
 
 -- ---- normals
 

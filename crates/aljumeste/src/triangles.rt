@@ -1,9 +1,7 @@
 // Document 01, section 6: the triangulation, as other languages link it. Any words in any slices of any lengths, any sizes: every call is
 // answered.
-ghost use mathlib.Core.Path.{_≡_};
-ghost use Rattle.geom.specs.Triangulation.{Triangulated, triangulation};
 ghost use Rattle.judge.specs.Judged.{bench};
-ghost use Rattle.triangulation.specs.Entry.{cuts};
+ghost use Rattle.triangulation.specs.Entry.{cuts, Triangulates};
 ghost use Rattle.told.specs.Told.{sizesFrom, outcomeFrom};
 use told::words::stated;
 use told::words::tell_sizes;
@@ -26,7 +24,7 @@ pub extern "C" fn aljumeste_triangulate(
     tetrahedra: &mut [u32],
     answer: &mut [usize; 7],
 ) -> u8
-    ensures { λ r. ⌜ _≡_ {A = Triangulated} (record { outcome = outcomeFrom r (now (answer .exit)); out = cuts (now (triangles .exit)) (now (tetrahedra .exit)) }) (triangulation (sizesFrom 0 (now (sizes .entry))) (bench (now (positions .entry)) (now (marks .entry)) (now (points .entry)) (now (lines .entry)) (now (areas .entry)) (now (volumes .entry)) (now (curves .entry)) (now (steps .entry))) (cuts (now (triangles .entry)) (now (tetrahedra .entry)))) ⌝ }
+    ensures { λ r. ⌜ Triangulates (sizesFrom 0 (now (sizes .entry))) (bench (now (positions .entry)) (now (marks .entry)) (now (points .entry)) (now (lines .entry)) (now (areas .entry)) (now (volumes .entry)) (now (curves .entry)) (now (steps .entry))) (cuts (now (triangles .entry)) (now (tetrahedra .entry))) (record { outcome = outcomeFrom r (now (answer .exit)); out = cuts (now (triangles .exit)) (now (tetrahedra .exit)) }) ⌝ }
 {
     let handed = stated(sizes);
     let a = triangulate(

@@ -58,6 +58,13 @@ accepted-before (d ∷ ds) es e = go (accepted-before ds es) (d .due) e
     go rest true q = let z : _≡_ {A = ℕ} 0 1 = cc in absurd (omega arith)
     go rest false q = rest q
 
+pub accepted-first : (ds es : List Due) → firstDue (ds ++ es) ≡ accepted → firstDue ds ≡ accepted
+accepted-first ds es e = go (firstDue ds) refl
+  where
+    go : (v : Verdict) → firstDue ds ≡ v → v ≡ accepted
+    go accepted q = refl
+    go (refused n) q = sym (refused-before ds es n q) ∙ e
+
 -- the judge found nothing
 pub accepted-by : {ended : Ended} {v : Verdict} → verdictOf ended ≡ v → ended ≡ Finished → v ≡ accepted
 unfolding verdictOf
@@ -186,16 +193,22 @@ pub vertex-count : {F : Form} (kind : Kind) (s : Sizes) (b : BenchIn F) → leng
 unfolding rowsOf meshOf
 vertex-count kind s b = length-firstOf _ (s .vertices)
 
+-- the lists of a mesh that no entry refuses for what is handed in
+pub judged-well :
+    {F : Form} (nine five : Bool) (kind : Kind) (s : Sizes) (b : BenchIn F) → firstDue (handedIn nine five kind s b) ≡ accepted
+    → Well kind (s .vertices) (meshOf (rowsOf kind s b) .lists)
+unfolding handedIn countsHold
+judged-well nine five kind s b e =
+    let r = rowsOf kind s b in
+    let room = within s (cells kind b) in
+    let sum = eqb (curveLengths (r .curves)) (s .«curve_vertices») in
+    let none = none-due (handedIn nine five kind s b) e in
+    let counts = and-l (room && sum) nine (holds (room && sum && nine) (none .0)) in
+    judged kind s b (and-l room sum counts) (holds (numbersHold (s .vertices) r) (none .1 .1 .1 .0))
+
 pub accepted-well :
     {F : Form} (kind : Kind) (s : Sizes) (d : DeskIn F) (time : ℕ) → refinementVerdict kind s d time ≡ accepted
     → let mesh = meshOf (rowsOf kind s (d .first)) in
     Well kind (length (mesh .vertices)) (mesh .lists)
-unfolding refinementVerdict handedIn countsHold
-accepted-well kind s d time e =
-    let r = rowsOf kind s (d .first) in
-    let room = within s (cells kind (d .first)) in
-    let sum = eqb (curveLengths (r .curves)) (s .«curve_vertices») in
-    let none = none-due (handedIn (benchesHold kind d) (goodParity time) kind s (d .first)) e in
-    let nine = holds (room && sum && benchesHold kind d) (none .0) in
-    let seven = holds (numbersHold (s .vertices) r) (none .1 .1 .1 .0) in
-    rw vertex-count (judged kind s (d .first) (and-l room sum (and-l (room && sum) (benchesHold kind d) nine)) seven)
+unfolding refinementVerdict
+accepted-well kind s d time e = rw vertex-count (judged-well (benchesHold kind d) (goodParity time) kind s (d .first) e)

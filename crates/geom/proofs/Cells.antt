@@ -10,7 +10,7 @@ use lib.ListN.{length, length-map}
 use Rattle.geom.specs.declared.parity.Parity.{Parity}
 use Rattle.geom.specs.declared.parity.Parity.the-variants.{Even}
 use Rattle.geom.specs.Parity.{times}
-use Rattle.geom.specs.Book.{Kind, cubes, simplices, Book, midpoint}
+use Rattle.geom.specs.Book.{Kind, cubes, simplices, Pair, Book, midpoint}
 use Rattle.geom.specs.Elements.{Element, Row, pick, pointAt, pairsOf, flat, unless, pieces, assemble}
 use Rattle.geom.specs.Rules.{same, turned}
 use Rattle.geom.specs.Ledger.{sameList, signed, spread, faceTable, volumeShape, faceShape, faces, facePieces, ledger}
@@ -20,7 +20,7 @@ use Rattle.geom.proofs.Integers.{signed-zero, signed-add, signed-times,
 use Rattle.geom.proofs.Spread.{raw, kept, spread-signed}
 use Rattle.geom.proofs.Chains.{under, over, within, rowsWithin, seats, raw-under, strike, cancel, negated, same-sum}
 use Rattle.geom.proofs.Flats.{flat-volume, flat-face}
-use Rattle.geom.proofs.Refining.{onFaces}
+use Rattle.geom.proofs.Refining.{onEach, onFaces}
 
 -- the points of a face's table
 abbrev pub facePoints : Kind → ℕ → Book → List ℕ → List ℕ
@@ -46,15 +46,15 @@ pub length-pick : (points row : List ℕ) (k : ℕ) → length row ≡ k → len
 unfolding pick
 length-pick points row k e = length-map row (pointAt points) ∙ e
 
-either : (b : Bool) → cond b (pos 0) (pos 0) ≡ pos 0
+pub either : (b : Bool) → cond b (pos 0) (pos 0) ≡ pos 0
 either true = refl
 either false = refl
 
-both-zero : (b : Bool) (x y : ℤ) → cond b (pos 0) x +ℤ cond b (pos 0) y ≡ cond b (pos 0) (x +ℤ y)
+pub both-zero : (b : Bool) (x y : ℤ) → cond b (pos 0) x +ℤ cond b (pos 0) y ≡ cond b (pos 0) (x +ℤ y)
 both-zero true x y = refl
 both-zero false x y = refl
 
-signed-cond : (p : Parity) (b : Bool) (x : ℤ) → signed p (cond b (pos 0) x) ≡ cond b (pos 0) (signed p x)
+pub signed-cond : (p : Parity) (b : Bool) (x : ℤ) → signed p (cond b (pos 0) x) ≡ cond b (pos 0) (signed p x)
 signed-cond p true x = signed-zero p
 signed-cond p false x = refl
 
@@ -63,32 +63,52 @@ signs : (r p : Parity) (x y : ℤ) → signed (times r p) x +ℤ signed p y ≡ 
 signs r p x y =
     ap (λ (z : ℤ). z +ℤ signed p y) (signed-times r p x ∙ signed-swap r p x) ∙ sym (signed-add p (signed r x) y)
 
-module _ (kind : Kind) where
-  ledger-unless :
-      (b : Bool) (e : Element) (es : List Element) (t : List ℕ) → (b ≡ true → spread (pos 1) (faces kind e) t ≡ pos 0)
-      → ledger kind (unless b e es) t ≡ spread (pos 1) (faces kind e) t +ℤ ledger kind es t
-  unfolding ledger
-  ledger-unless true e es t h = sym (ap (λ (x : ℤ). x +ℤ ledger kind es t) (h refl) ∙ +ℤ-idl (ledger kind es t))
-  ledger-unless false e es t h = refl
+-- ── what the rows of a table add ──
 
+-- an element that may be dropped, where it adds nothing if it is
+unless-adds :
+    (sum : List Element → ℤ) (x : ℤ) (b : Bool) (e : Element) (es : List Element) → sum (e ∷ es) ≡ x +ℤ sum es → (b ≡ true → x ≡ pos 0)
+    → sum (unless b e es) ≡ x +ℤ sum es
+unless-adds sum x true e es p h = sym (ap (λ (y : ℤ). y +ℤ sum es) (h refl) ∙ +ℤ-idl (sum es))
+unless-adds sum x false e es p h = p
+
+-- A sum over the pieces of a table, some of them dropped, where each piece adds what an inner table adds over its corners, or nothing to a flat list.
+module _ (axes : List (List Pair)) (inner : List Row) (b : Bool) (t : List ℕ) (sum : List Element → ℤ) where
+  abbrev adding : Element → ℤ
+  adding e = cond b (pos 0) (signed (e .parity) (raw (pos 1) (e .corners) inner t))
+
+  pub table-adds :
+      (k : ℕ) → sum [] ≡ pos 0 → ((e : Element) (es : List Element) → sum (e ∷ es) ≡ adding e +ℤ sum es)
+      → ((e : Element) → length (e .corners) ≡ k → flat axes (e .corners) ≡ true → adding e ≡ pos 0)
+      → (p : Parity) (points : List ℕ) (rows : List Row) → Sized k rows
+      → sum (pieces axes p points rows) ≡ cond b (pos 0) (signed p (over (pos 1) points rows inner t))
+  unfolding pieces over
+  table-adds k zero adds none p points [] s = zero ∙ sym (ap (λ (x : ℤ). cond b (pos 0) x) (signed-zero p) ∙ either b)
+  table-adds k zero adds none p points (r ∷ rows) s =
+      let c = pick points (r .places) in
+      let e : Element = record { corners = c; parity = times (r .parity) p } in
+      let rest = over (pos 1) points rows inner t in
+      unless-adds sum (adding e) (flat axes c) e (pieces axes p points rows) (adds e (pieces axes p points rows)) (none e (length-pick points (r .places) k (s .0)))
+      ∙ ap (λ (x : ℤ). adding e +ℤ x) (table-adds k zero adds none p points rows (s .1))
+      ∙ both-zero b (signed (times (r .parity) p) (raw (pos 1) c inner t)) (signed p rest)
+      ∙ ap (λ (x : ℤ). cond b (pos 0) x) (signs (r .parity) p (raw (pos 1) c inner t) rest)
+
+module _ (kind : Kind) where
   -- the pieces of a volume, flat ones dropped
-  pieces-add :
+  pub pieces-add :
       (p : Parity) (points : List ℕ) (rows : List Row) (t : List ℕ) → Sized (volumeShape kind .count) rows
       → ledger kind (pieces (volumeShape kind .axes) p points rows) t
       ≡ cond (flat (faceShape kind .axes) t) (pos 0) (signed p (over (pos 1) points rows (faceTable kind) t))
-  unfolding pieces over ledger faces
-  pieces-add p points [] t s = sym (ap (λ (x : ℤ). cond (flat (faceShape kind .axes) t) (pos 0) x) (signed-zero p) ∙ either (flat (faceShape kind .axes) t))
-  pieces-add p points (r ∷ rows) t s =
-      let c = pick points (r .places) in
-      let b = flat (faceShape kind .axes) t in
-      ledger-unless (flat (volumeShape kind .axes) c) (record { corners = c; parity = times (r .parity) p })
-      (pieces (volumeShape kind .axes) p points rows) t
-      (flat-volume kind c (times (r .parity) p) t (length-pick points (r .places) (volumeShape kind .count) (s .0)))
-      ∙ ap₂ (λ (x y : ℤ). x +ℤ y)
-      (kept (faceShape kind .axes) (times (r .parity) p) (pos 1) c (faceTable kind) t)
-      (pieces-add p points rows t (s .1))
-      ∙ both-zero b (signed (times (r .parity) p) (raw (pos 1) c (faceTable kind) t)) (signed p (over (pos 1) points rows (faceTable kind) t))
-      ∙ ap (λ (x : ℤ). cond b (pos 0) x) (signs (r .parity) p (raw (pos 1) c (faceTable kind) t) (over (pos 1) points rows (faceTable kind) t))
+  unfolding ledger faces
+  pieces-add p points rows t s =
+      let faceAxes = faceShape kind .axes in
+      let own : (e : Element) → spread (pos 1) (faces kind e) t ≡ cond (flat faceAxes t) (pos 0) (signed (e .parity) (raw (pos 1) (e .corners) (faceTable kind) t)) =
+      λ e. kept faceAxes (e .parity) (pos 1) (e .corners) (faceTable kind) t
+      in
+      table-adds (volumeShape kind .axes) (faceTable kind) (flat faceAxes t) t (λ es. ledger kind es t) (volumeShape kind .count) refl
+      (λ e es. ap (λ (x : ℤ). x +ℤ ledger kind es t) (own e))
+      (λ e l f. sym (own e) ∙ flat-volume kind (e .corners) (e .parity) t l f)
+      p points rows s
 
   module _ (base : ℕ) (book : Book) (corners points : List ℕ) where
     -- the faces' own points stand at these places among the volume's
@@ -99,22 +119,12 @@ module _ (kind : Kind) where
     Seated (r ∷ rows) (q ∷ qs) =
         (r .parity ≡ q .parity) × (facePoints kind base book (pick corners (r .places)) ≡ pick points (q .places)) × Seated rows qs
 
-    onFaces-unless :
-        (b : Bool) (f : Element) (fs : List Element) (t : List ℕ) → (b ≡ true → facePieces kind base book (f .corners) ≡ [])
-        → onFaces kind base book (pos 1) (unless b f fs) t
-        ≡ spread (signed (f .parity) (pos 1)) (facePieces kind base book (f .corners)) t +ℤ onFaces kind base book (pos 1) fs t
-    unfolding onFaces spread
-    onFaces-unless true f fs t h =
-        sym (ap (λ (es : List Element). spread (signed (f .parity) (pos 1)) es t +ℤ onFaces kind base book (pos 1) fs t) (h refl)
-        ∙ +ℤ-idl (onFaces kind base book (pos 1) fs t))
-    onFaces-unless false f fs t h = refl
-
     -- the pieces of a volume's faces, flat ones dropped
     faces-add :
         (p : Parity) (rows qs : List Row) (t : List ℕ) → Sized (faceShape kind .count) rows → Seated rows qs
         → onFaces kind base book (pos 1) (pieces (faceShape kind .axes) p corners rows) t
         ≡ cond (flat (faceShape kind .axes) t) (pos 0) (signed p (over (pos 1) points qs (faceShape kind .table) t))
-    unfolding pieces over onFaces
+    unfolding pieces over onEach spread
     faces-add p [] [] t s h = sym (ap (λ (x : ℤ). cond (flat (faceShape kind .axes) t) (pos 0) x) (signed-zero p) ∙ either (flat (faceShape kind .axes) t))
     faces-add p [] (q ∷ qs) t s h = absurd h
     faces-add p (r ∷ rows) [] t s h = absurd h
@@ -122,9 +132,10 @@ module _ (kind : Kind) where
         let c = pick corners (r .places) in
         let b = flat (faceShape kind .axes) t in
         let table = faceShape kind .table in
-        onFaces-unless (flat (faceShape kind .axes) c) (record { corners = c; parity = times (r .parity) p })
-        (pieces (faceShape kind .axes) p corners rows) t
-        (flat-face kind base book c (length-pick corners (r .places) (faceShape kind .count) (s .0)))
+        unless-adds (λ fs. onFaces kind base book (pos 1) fs t) (spread (signed (times (r .parity) p) (pos 1)) (facePieces kind base book c) t)
+        (flat (faceShape kind .axes) c) (record { corners = c; parity = times (r .parity) p })
+        (pieces (faceShape kind .axes) p corners rows) refl
+        (λ f. ap (λ (es : List Element). spread (signed (times (r .parity) p) (pos 1)) es t) (flat-face kind base book c (length-pick corners (r .places) (faceShape kind .count) (s .0)) f))
         ∙ ap₂ (λ (x y : ℤ). x +ℤ y)
         (spread-signed (times (r .parity) p) (pos 1) (facePieces kind base book c) t
         ∙ ap (signed (times (r .parity) p))

@@ -44,7 +44,7 @@ spread-support P z (f ∷ fs) t a = go (sameList (f .corners) t) refl (spread-su
     go false e r = ⊎-elim (λ p. inl p) (λ q. inr (ap (λ (x : ℤ). pos 0 +ℤ x) q)) r
 
 -- A list is of the sort that all faces of the volumes are, or its entry is 0.
-ledger-support :
+pub ledger-support :
     (kind : Kind) (P : List ℕ → Type 0) (vs : List Element) (t : List ℕ)
     → All (λ (v : Element). All (λ (f : Element). P (f .corners)) (faces kind v)) vs → P t ⊎ (ledger kind vs t ≡ pos 0)
 unfolding ledger

@@ -13,7 +13,7 @@ use Rattle.geom.specs.declared.parity.Parity.the-variants.{Even}
 use Rattle.geom.specs.Book.{Kind, cubes, simplices, Pair, pair, Book, midpoint}
 use Rattle.geom.specs.Elements.{Element, pointAt, pick, pairsOf, flat}
 use Rattle.geom.specs.Cubes.{SQUARE-AXES}
-use Rattle.geom.specs.Ledger.{Ledger, sameList, spread, faceShape, facePieces, refine}
+use Rattle.geom.specs.Ledger.{Ledger, sameList, spread, faceShape, facePieces, put, refine}
 use Rattle.geom.specs.Between.{All, Low, Rising}
 use Rattle.geom.proofs.Lists.{all-at, spelled, sameList-same, sameList-other}
 use Rattle.geom.proofs.Sums.{lists-one}
@@ -347,7 +347,7 @@ module _ (kind : Kind) (base : ℕ) (book : Book) (c : List ℕ) (part : Apart k
 pub refine-corner :
     (kind : Kind) (base : ℕ) (book : Book) → Rising base book → (c : List ℕ) → Entry kind base book c → (l : Ledger)
     → refine kind base book l (corner kind base book c) ≡ l c
-unfolding refine
+unfolding refine put
 refine-corner kind base book rising c e l =
     let part = apart kind base book rising c e in
     let t = corner kind base book c in

@@ -51,13 +51,13 @@ shut-ends c (e ∷ axis) h =
     (same-number (pointAt c (e .first)) (pointAt c (e .second)) (and-true-left a (shut c axis) h), shut-ends c axis (and-true-right a (shut c axis) h))
 
 -- flat along one axis or another
-flat-cases :
+pub flat-cases :
     (axis : List Pair) (axes : List (List Pair)) (c : List ℕ) → flat (axis ∷ axes) c ≡ true
     → All (λ (e : Pair). pointAt c (e .first) ≡ pointAt c (e .second)) axis ⊎ (flat axes c ≡ true)
 unfolding flat
 flat-cases axis axes c h = ⊎-elim (λ s. inl (shut-ends c axis s)) (λ f. inr f) (or-cases (shut c axis) (flat axes c) h)
 
-not-flat : {A : Type 0} (c : List ℕ) → flat [] c ≡ true → A
+pub not-flat : {A : Type 0} (c : List ℕ) → flat [] c ≡ true → A
 unfolding flat
 not-flat c e = false-true e
 
@@ -92,7 +92,7 @@ pieces-aacc base book a c =
 -- ── the three flat cubes ──
 
 -- two faces with the same corners and opposite signs, both dropped or both kept
-opposite-faces :
+pub opposite-faces :
     (b : Bool) (r p : Parity) (c t : List ℕ)
     → spread (pos 1) (unless b (record { corners = c; parity = times r p }) (unless b (record { corners = c; parity = times (flipped r) p }) [])) t
     ≡ pos 0

@@ -25,6 +25,9 @@ pub mod Demand3
 pub mod Left
 pub mod Accepted
 pub mod Refined
+-- The ledger of cubes through triangulation; and a mesh of cubes, the eight around a 4D cube, that closes.
+pub mod Cutting
+pub mod Around
 -- A mesh that is written over a bench stands there, and a pass leaves such a mesh.
 pub mod Back
 pub mod Standing

@@ -1,4 +1,4 @@
--- The refinement of a ledger: it adds, and refines a sum of faces face by face.
+-- Entries put on pieces: so a ledger is refined, and so squares are replaced by triangles. Putting adds, and goes face by face over a sum of faces.
 -- Assumes nothing.
 use mathlib.Core.Path.{_≡_, sym, _∙_, ap, ap₂, fun-ext}
 use mathlib.Core.List.{List, [], _∷_}
@@ -7,11 +7,49 @@ use lib.IntN.{ℤ, pos, _+ℤ_}
 use lib.ListN.{length}
 use Rattle.geom.specs.Book.{Kind, Book}
 use Rattle.geom.specs.Elements.{Element}
-use Rattle.geom.specs.Ledger.{Ledger, sameList, signed, spread, faceShape, facePieces, sumLists, refine}
+use Rattle.geom.specs.Ledger.{Ledger, sameList, signed, spread, faceShape, facePieces, sumLists, put, refine}
 use Rattle.geom.specs.Between.{All, Fits}
 use Rattle.geom.proofs.Lists.{sameList-same, sameList-other}
 use Rattle.geom.proofs.Sums.{lists-add, lists-none, lists-one}
 use Rattle.geom.proofs.Spread.{only, spread-add, spread-zero}
+
+-- ---- entries put on any pieces
+
+module _ (n k : ℕ) (piecesOf : List ℕ → List Element) where
+  pub put-add :
+      (l m : Ledger) (t : List ℕ) → put n k piecesOf (λ (c : List ℕ). l c +ℤ m c) t ≡ put n k piecesOf l t +ℤ put n k piecesOf m t
+  unfolding put
+  put-add l m t =
+      ap (sumLists n k) (fun-ext (λ (c : List ℕ). spread-add (l c) (m c) (piecesOf c) t))
+      ∙ lists-add n k (λ (c : List ℕ). spread (l c) (piecesOf c) t) (λ (c : List ℕ). spread (m c) (piecesOf c) t)
+
+  pub put-zero : (t : List ℕ) → put n k piecesOf (λ (c : List ℕ). pos 0) t ≡ pos 0
+  unfolding put
+  put-zero t = lists-none n k (λ (c : List ℕ). spread (pos 0) (piecesOf c) t) (λ c w. spread-zero (piecesOf c) t)
+
+  -- one entry goes to its pieces
+  put-one : (z : ℤ) (d t : List ℕ) → Fits n k d → put n k piecesOf (λ (c : List ℕ). only (sameList d c) z) t ≡ spread z (piecesOf d) t
+  unfolding put
+  put-one z d t w =
+      lists-one n k d (λ (c : List ℕ). spread (only (sameList d c) z) (piecesOf c) t) w
+      (λ c v ne. rw (sameList-other d c (λ e. ne (sym e))) (spread-zero (piecesOf c) t))
+      ∙ rw (sameList-same d)
+
+-- what z adds to t when it is put on the pieces of some faces
+unfoldable pub onEach : (List ℕ → List Element) → ℤ → List Element → List ℕ → ℤ
+onEach piecesOf z [] t = pos 0
+onEach piecesOf z (f ∷ fs) t = spread (signed (f .parity) z) (piecesOf (f .corners)) t +ℤ onEach piecesOf z fs t
+
+pub put-faces :
+    (n k : ℕ) (piecesOf : List ℕ → List Element) (z : ℤ) (fs : List Element) (t : List ℕ) → All (λ (f : Element). Fits n k (f .corners)) fs
+    → put n k piecesOf (spread z fs) t ≡ onEach piecesOf z fs t
+unfolding spread onEach
+put-faces n k piecesOf z [] t a = put-zero n k piecesOf t
+put-faces n k piecesOf z (f ∷ fs) t a =
+    put-add n k piecesOf (λ (c : List ℕ). only (sameList (f .corners) c) (signed (f .parity) z)) (spread z fs) t
+    ∙ ap₂ (λ (x y : ℤ). x +ℤ y) (put-one n k piecesOf (signed (f .parity) z) (f .corners) t (a .0)) (put-faces n k piecesOf z fs t (a .1))
+
+-- ---- the refinement
 
 -- a list that can be a face after the pass
 abbrev pub Face : Kind → ℕ → Book → List ℕ → Type 0
@@ -21,43 +59,18 @@ pub refine-add :
     (kind : Kind) (base : ℕ) (book : Book) (l m : Ledger) (t : List ℕ)
     → refine kind base book (λ (c : List ℕ). l c +ℤ m c) t ≡ refine kind base book l t +ℤ refine kind base book m t
 unfolding refine
-refine-add kind base book l m t =
-    ap (sumLists (base + length book) (faceShape kind .count))
-    (fun-ext (λ (c : List ℕ). spread-add (l c) (m c) (facePieces kind base book c) t))
-    ∙ lists-add (base + length book) (faceShape kind .count)
-    (λ (c : List ℕ). spread (l c) (facePieces kind base book c) t)
-    (λ (c : List ℕ). spread (m c) (facePieces kind base book c) t)
+refine-add kind base book = put-add (base + length book) (faceShape kind .count) (facePieces kind base book)
 
 pub refine-zero : (kind : Kind) (base : ℕ) (book : Book) (t : List ℕ) → refine kind base book (λ (c : List ℕ). pos 0) t ≡ pos 0
 unfolding refine
-refine-zero kind base book t =
-    lists-none (base + length book) (faceShape kind .count)
-    (λ (c : List ℕ). spread (pos 0) (facePieces kind base book c) t)
-    (λ c w. spread-zero (facePieces kind base book c) t)
-
--- one entry goes to the pieces of its face
-refine-put :
-    (kind : Kind) (base : ℕ) (book : Book) (z : ℤ) (d t : List ℕ) → Face kind base book d
-    → refine kind base book (λ (c : List ℕ). only (sameList d c) z) t ≡ spread z (facePieces kind base book d) t
-unfolding refine
-refine-put kind base book z d t w =
-    lists-one (base + length book) (faceShape kind .count) d
-    (λ (c : List ℕ). spread (only (sameList d c) z) (facePieces kind base book c) t)
-    w
-    (λ c v ne. rw (sameList-other d c (λ e. ne (sym e))) (spread-zero (facePieces kind base book c) t))
-    ∙ rw (sameList-same d)
+refine-zero kind base book = put-zero (base + length book) (faceShape kind .count) (facePieces kind base book)
 
 -- what z adds to t when it is put on the pieces of some faces
-unfoldable pub onFaces : Kind → ℕ → Book → ℤ → List Element → List ℕ → ℤ
-onFaces kind base book z [] t = pos 0
-onFaces kind base book z (f ∷ fs) t = spread (signed (f .parity) z) (facePieces kind base book (f .corners)) t +ℤ onFaces kind base book z fs t
+abbrev pub onFaces : Kind → ℕ → Book → ℤ → List Element → List ℕ → ℤ
+onFaces kind base book = onEach (facePieces kind base book)
 
 pub refine-faces :
     (kind : Kind) (base : ℕ) (book : Book) (z : ℤ) (fs : List Element) (t : List ℕ)
     → All (λ (f : Element). Face kind base book (f .corners)) fs → refine kind base book (spread z fs) t ≡ onFaces kind base book z fs t
-unfolding spread onFaces
-refine-faces kind base book z [] t a = refine-zero kind base book t
-refine-faces kind base book z (f ∷ fs) t a =
-    refine-add kind base book (λ (c : List ℕ). only (sameList (f .corners) c) (signed (f .parity) z)) (spread z fs) t
-    ∙ ap₂ (λ (x y : ℤ). x +ℤ y) (refine-put kind base book (signed (f .parity) z) (f .corners) t (a .0))
-    (refine-faces kind base book z fs t (a .1))
+unfolding refine
+refine-faces kind base book = put-faces (base + length book) (faceShape kind .count) (facePieces kind base book)

@@ -20,7 +20,7 @@ use Rattle.geom.proofs.Cells.{sized-faces, cell}
 use Rattle.geom.proofs.Well.{grown-volumes, volume-over, below-more, some-below, pieces-proper, some-volume, pass-is, afterCurves, curves-grow, pass-longer, pass-good}
 
 -- the faces of a volume of vertices are lists that the refinement sums over
-faces-fit :
+pub faces-fit :
     (kind : Kind) (n m : ℕ) (v : Element) → m ≤ n → IsVolume kind m v
     → All (IsArea kind n) (faces kind v)
 unfolding faces

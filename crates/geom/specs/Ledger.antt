@@ -99,11 +99,13 @@ unfoldable pub sumLists : ℕ → ℕ → (List ℕ → ℤ) → ℤ
 sumLists n zero f = f []
 sumLists n (suc k) f = sumBelow n (λ (i : ℕ). sumLists n k (λ (c : List ℕ). f (i ∷ c)))
 
--- Refining puts every entry on its pieces; pieces that coincide add up. (An entry 0 adds 0 to its pieces.)
--- The lists that can have an entry are those of vertices below the count after the pass, base + the book's length.
+-- Every entry put on its pieces; pieces that coincide add up. (An entry 0 adds 0 to its pieces.) The lists that can have an entry are those of k numbers below n.
+unfoldable pub put : ℕ → ℕ → (List ℕ → List Element) → Ledger → Ledger
+put n k piecesOf l t = sumLists n k (λ (c : List ℕ). spread (l c) (piecesOf c) t)
+
+-- Refining puts every face's entry on the face's pieces. The vertices are those below the count after the pass, base + the book's length.
 unfoldable pub refine : Kind → ℕ → Book → Ledger → Ledger
-refine kind base book l t =
-    sumLists (base + length book) (faceShape kind .count) (λ (c : List ℕ). spread (l c) (facePieces kind base book c) t)
+refine kind base book l = put (base + length book) (faceShape kind .count) (facePieces kind base book) l
 
 -- a ledger refined n times: the k-th time over the midpoints after pass k, as the book is made from the lists handed in
 unfoldable pub refined : Kind → ℕ → Lists → ℕ → Ledger → Ledger

@@ -23,8 +23,9 @@ pub mod Memory
 pub mod Refusals
 -- what a refinement keeps
 pub mod Soundness
--- what else is done with a mesh
+-- what else is done with a mesh, and (document 02, U8) what triangulation does to a ledger
 pub mod Triangulation
+pub mod Cutting
 pub mod Normals
 -- the file, the listing, and the program
 pub mod File

@@ -1,6 +1,6 @@
 -- Document 01, section 6: cubes cut into simplices, as one mesh to another and as the entry over lent lists.
 -- Vertices, points, lines and curves stay; the new areas and volumes go into lists lent for them.
--- Says nothing of the ledger of what comes out.
+-- Says nothing of the ledger of what comes out (Cutting).
 -- Assumes nothing.
 use mathlib.Core.Bool.{Bool, true, not, _&&_}
 use mathlib.Core.List.{List, [], _∷_, _++_, flatMap}

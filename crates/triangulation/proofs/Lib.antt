@@ -5,4 +5,5 @@ pub mod Turns
 pub mod Pieces
 -- and the entry.
 pub mod Sizing
+pub mod Keeping
 pub mod Door

@@ -4,9 +4,8 @@ pub mod cutting;
 pub mod simplices;
 
 ghost use mathlib.Core.Path.{_≡_};
-ghost use Rattle.geom.specs.Triangulation.{triangulation};
 ghost use Rattle.judge.specs.Judged.{bench};
-ghost use Rattle.triangulation.specs.Entry.{cuts, answered, lengthsHold};
+ghost use Rattle.triangulation.specs.Entry.{cuts, answered, lengthsHold, Triangulates};
 use crate::simplices::tetrahedron_count;
 use crate::simplices::triangle_count;
 use crate::simplices::write_tetrahedra;
@@ -50,7 +49,7 @@ pub fn triangulate(
     triangles: &mut [u32],
     tetrahedra: &mut [u32],
 ) -> Answer
-    ensures { λ r. ⌜ answered r (now (triangles .exit)) (now (tetrahedra .exit)) ≡ triangulation sizes (bench (now (positions .entry)) (now (marks .entry)) (now (points .entry)) (now (lines .entry)) (now (areas .entry)) (now (volumes .entry)) (now (curves .entry)) (now (steps .entry))) (cuts (now (triangles .entry)) (now (tetrahedra .entry))) ⌝ }
+    ensures { λ r. ⌜ Triangulates sizes (bench (now (positions .entry)) (now (marks .entry)) (now (points .entry)) (now (lines .entry)) (now (areas .entry)) (now (volumes .entry)) (now (curves .entry)) (now (steps .entry))) (cuts (now (triangles .entry)) (now (tetrahedra .entry))) (answered r (now (triangles .exit)) (now (tetrahedra .exit))) ⌝ }
 {
     let ended = handed_in(
         Kind::Cubes,

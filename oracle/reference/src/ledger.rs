@@ -1,5 +1,5 @@
 //! Section 5: the ledger of a mesh's faces, and its refinement over the midpoints of a model, so that no cell of what is held against it
-//! is asked.
+//! is asked. And document 02's U8: how a ledger of squares becomes one of triangles, and how that is read.
 
 use std::collections::{btree_map::Entry, BTreeMap};
 
@@ -88,4 +88,26 @@ pub fn refined(ledger: &Ledger, model: &Model) -> Ledger {
         }
     }
     out
+}
+
+/// "each square [a,b,c,d] replaced by [a,b,d] minus [a,c,d]".
+#[must_use]
+pub fn replaced(squares: &Ledger) -> Ledger {
+    let mut out = Ledger::new();
+    for (square, number) in squares {
+        let [a, b, c, d] = square[..] else {
+            unreachable!("the faces of cubes have four corners")
+        };
+        add(&mut out, vec![a, b, d], *number);
+        add(&mut out, vec![a, c, d], -*number);
+    }
+    out
+}
+
+/// "read without triples that have equal neighbours".
+#[must_use]
+pub fn read(triangles: &Ledger) -> Ledger {
+    let apart = |triple: &[u32]| triple[0] != triple[1] && triple[1] != triple[2];
+    let entries = triangles.iter().filter(|(triple, _)| apart(triple));
+    entries.map(|(triple, n)| (triple.clone(), *n)).collect()
 }

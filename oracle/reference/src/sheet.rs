@@ -2,7 +2,9 @@
 //! on to triangulation and normals.
 
 use crate::{
-    file, listing,
+    file,
+    ledger::{self, ledger, replaced},
+    listing,
     memory::{normals_3d, normals_4d, refine_within, triangulated, Ended},
     mesh::{Kind, Lent, Mesh},
 };
@@ -17,6 +19,7 @@ pub const MOST_BYTES: usize = 65_536;
 pub enum Sheet {
     Mesh,
     Triangulated,
+    Replaced,
     Normals3,
     Normals4,
 }
@@ -28,6 +31,7 @@ impl Sheet {
         match word {
             "sheet" => Some(Self::Mesh),
             "triangulate" => Some(Self::Triangulated),
+            "replaced" => Some(Self::Replaced),
             "normals3" => Some(Self::Normals3),
             "normals4" => Some(Self::Normals4),
             _ => None,
@@ -46,11 +50,23 @@ impl Sheet {
         match (self, mesh.kind) {
             (Self::Mesh, _) => listing::mesh(passes, &mesh),
             (Self::Triangulated, Kind::Cubes) => listing::mesh(passes, &triangulated(&mesh)),
-            (Self::Triangulated, Kind::Simplices) => "not cubes\n".to_string(),
+            (Self::Replaced, Kind::Cubes) => triangles(&mesh),
+            (Self::Triangulated | Self::Replaced, Kind::Simplices) => "not cubes\n".to_string(),
             (Self::Normals3, _) => listing::normals(passes, &normals_3d(&simplices(mesh))),
             (Self::Normals4, _) => listing::normals(passes, &normals_4d(&simplices(mesh))),
         }
     }
+}
+
+/// Document 02's U8: the ledger of cubes with each square replaced by triangles. An entry a line, with its number as it is read.
+fn triangles(mesh: &Mesh) -> String {
+    let entries = replaced(&ledger(mesh));
+    let seen = ledger::read(&entries);
+    let line = |t: &Vec<u32>| {
+        let number = seen.get(t).copied().unwrap_or(0);
+        format!("f {} {} {} {number}\n", t[0], t[1], t[2])
+    };
+    entries.keys().map(line).collect()
 }
 
 fn simplices(mesh: Mesh) -> Mesh {

@@ -1,4 +1,4 @@
--- `triangulation::triangulate` meets its contract: judged at the door, its pieces counted and judged, and written (`Door`). Assumes nothing.
+-- `triangulation::triangulate` meets its contract: judged at the door, its pieces counted and judged, and written (`Door`, `Keeping`). Assumes nothing.
 use mathlib.Core.Path.{sym, _∙_}
 use denote.Ref.{now}
 use lib.ListN.{length}
@@ -7,6 +7,7 @@ use Rattle.geom.specs.Triangulation.{Cuts}
 use Rattle.judge.specs.Judged.{bench}
 use Rattle.triangulation.specs.Entry.{cuts}
 use Rattle.geom.proofs.Accepted.{accepted-by}
+use Rattle.triangulation.proofs.Keeping.{triangulates}
 use Rattle.triangulation.proofs.Door.{room-areas, room-volumes, refuses, areas-lie, volumes-lie, areas-few, volumes-few, full, done}
 use borrow.Author.Needs.{needs}
 use borrow.Author.Tests.{not-true, not-false}
@@ -34,7 +35,8 @@ enum-told-2 c = search needs
 returns : tie.Need-returns
 returns c =
     let s = c .before .before .before .before .before .before .before .before .before .before .before .before .before in
-    refuses (s .args .sizes) (words s) (lent s) (c .before .before .handed-in .ensures) (c .enum-told2 .given .1)
+    triangulates (s .args .sizes) (words s) (lent s)
+    (refuses (s .args .sizes) (words s) (lent s) (c .before .before .handed-in .ensures) (c .enum-told2 .given .1))
 
 triangle-count-requires : tie.Need-triangle-count-requires
 triangle-count-requires c κs =
@@ -55,7 +57,8 @@ returns-2 : tie.Need-returns-2
 returns-2 c =
     let s = c .before .before .before .before .before .before .before .before .before .before .before .before .before .before .before .before .before in
     let e = accepted-by (c .before .before .before .before .before .before .handed-in .ensures) (c .before .before .before .before .enum-told .given .1) in
-    full (s .args .sizes) (words s) (lent s) e (c .before .before .before .triangle-count .ensures) (c .before .before .tetrahedron-count .ensures) (sym (c .before .cuts-hold .ensures) ∙ not-true _ (c .if1 .taken))
+    triangulates (s .args .sizes) (words s) (lent s)
+    (full (s .args .sizes) (words s) (lent s) e (c .before .before .before .triangle-count .ensures) (c .before .before .tetrahedron-count .ensures) (sym (c .before .cuts-hold .ensures) ∙ not-true _ (c .if1 .taken)))
 
 write-triangles-requires : tie.Need-write-triangles-requires
 write-triangles-requires c κs =
@@ -82,7 +85,8 @@ returns-3 c =
     let s = c .before .before .before .before .before .before .before .before .before .before .before .before .before .before .before .before .before .before .before .before .before .before .before .before .before in
     let e = accepted-by (c .before .before .before .before .before .before .before .before .before .before .before .before .before .before .handed-in .ensures) (c .before .before .before .before .before .before .before .before .before .before .before .before .enum-told .given .1) in
     let h = sym (c .before .before .before .before .before .before .before .before .before .cuts-hold .ensures) ∙ not-false _ (c .before .before .before .before .before .before .before .before .if1 .left) in
-    done (s .args .sizes) (words s) (lent s) e (c .before .before .before .before .before .before .before .before .before .before .before .triangle-count .ensures) (c .before .before .before .before .before .before .before .before .before .before .tetrahedron-count .ensures) h (c .before .before .before .before .before .before .write-triangles .ensures) (c .before .before .write-tetrahedra .ensures)
+    triangulates (s .args .sizes) (words s) (lent s)
+    (done (s .args .sizes) (words s) (lent s) e (c .before .before .before .before .before .before .before .before .before .before .before .triangle-count .ensures) (c .before .before .before .before .before .before .before .before .before .before .tetrahedron-count .ensures) h (c .before .before .before .before .before .before .write-triangles .ensures) (c .before .before .write-tetrahedra .ensures))
 
 pub triangulate-spec : {M : Type 1} → statement M
 triangulate-spec =

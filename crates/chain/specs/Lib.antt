@@ -1,0 +1,2 @@
+-- The chain from cubes to refined tetrahedra.
+pub mod Calls
