@@ -4,10 +4,12 @@
     oracle/definitions.py [COUNT]      COUNT random meshes of each kind and each sort (6)
 
 The package oracle/reference makes random inputs and says what the Rust makes of them: what `sheet` prints (some of the inputs are damaged), the
-triangulation, and both normals; and what document 02's U8 makes of the ledger of cubes. Each answer becomes an equation about the definitions, `sheet INPUT ≡ ANSWER`, in a copy of the repository, and
-antt proves it by computing both sides. One equation that does not hold is printed, and the exit status is 1.
+triangulation, and both normals; and what document 02's U8 makes of the ledger of cubes. Each answer becomes an equation about the definitions,
+`sheet INPUT ≡ ANSWER`, in a copy of the repository, and antt proves it by computing both sides. One equation that does not hold is printed, and the
+exit status is 1.
 """
 import glob
+import itertools
 import os
 import re
 import shutil
@@ -69,12 +71,15 @@ def normal_cells(answer, width):
 
 
 def replaced_faces(given, answer):
-    """The triples of a ledger of cubes with each square replaced, and the number of each as it is read."""
+    """A ledger of cubes with each square replaced, as it is read: the number of every triple of the mesh's vertices, those without an entry too."""
     rows = [[int(word) for word in line.split()[1:]] for line in bytes.fromhex(answer).decode().split("\n") if line.startswith("f ")]
+    entries = {tuple(triple): n for *triple, n in rows}
+    triples = list(itertools.product(range(1 + max(map(max, entries))), repeat=3))
     mesh = "meshIn (%s)" % numbers(bytes.fromhex(given))
     read = "Cutting.read (Cutting.replaced (length (%s .vertices)) (Ledger.ledger Book.cubes (%s .lists .volumes)))" % (mesh, mesh)
-    values = ["pos %d" % n if n >= 0 else "negℤ (pos %d)" % -n for *triple, n in rows]
-    return "map (%s) (%s)" % (read, numbers("(%s)" % numbers(triple) for *triple, n in rows)), numbers(values)
+    values = [entries.get(triple, 0) for triple in triples]
+    signed = ["pos %d" % n if n >= 0 else "negℤ (pos %d)" % -n for n in values]
+    return "map (%s) (%s)" % (read, numbers("(%s)" % numbers(triple) for triple in triples)), numbers(signed)
 
 
 def equations(count):
