@@ -10,13 +10,16 @@
  * length divided by the words of a row, rounded down; vertices are in two lists, and have the smaller of the two numbers.
  *
  *   positions   4   x, y, z, w of a vertex; finite, from -1024 to 1024
- *   marks       3   the same vertex's flags (bit i set: smoothing leaves axis i), tag, k; tag and k are carried along
+ *   marks       3   the same vertex's flags (bit i set: smoothing leaves axis i), tag, k; tag and k are any words
  *   points      1   vertex number
  *   lines       3   two vertex numbers, parity
  *   areas       5   four vertex numbers, parity     (simplices 4: three, parity)
  *   volumes     9   eight vertex numbers, parity    (simplices 5: four, parity)
  *   curves      2   tag, number of vertices; the curves' vertices follow each other in steps
  *   steps       2   vertex number, parity of the step to the next vertex; beside a curve's last vertex the word is never read
+ *
+ * A vertex keeps its flags, tag and k. A midpoint has the flags that both ends have, and tag and k both of one end: of that with the smaller k,
+ * compared as uint32_t, of the first on a tie. (The first end of a curve's odd step is the later vertex.)
  *
  * A parity is 0, even, or 1, odd. Corner c of a square or cube is at the far end of its axis i where bit i of c is set.
  *

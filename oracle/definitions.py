@@ -4,7 +4,7 @@
     oracle/definitions.py [COUNT]      COUNT random meshes of each kind and each sort (6)
 
 The package oracle/reference makes random inputs and says what the Rust makes of them: what `sheet` prints (some of the inputs are damaged), the
-triangulation, and both normals; and what document 02's U8 makes of the ledger of cubes. Each answer becomes an equation about the definitions,
+triangulation, and both normals; and what document 02 makes of them, written again there: U3 of tags and k, U8 of the ledger of cubes. Each answer becomes an equation about the definitions,
 `sheet INPUT ≡ ANSWER`, in a copy of the repository, and antt proves it by computing both sides. One equation that does not hold is printed, and the
 exit status is 1.
 """
@@ -23,12 +23,14 @@ REFERENCE = "oracle/reference"
 BELOW = ("target/rlib/numbers.rlib", "target/stamp/numbers")
 FLOATS = "toBits ofBits ofFields size units odd round add sub sum mul div ofInt lt le eq neg".split()
 HEADER = """use mathlib.Core.Path.{_≡_, refl}
+use mathlib.Core.Bool.{true, false}
 use mathlib.Core.List.{List, [], _∷_, flatMap, map}
 use Prim.Native.Nat.{ℕ}
 use lib.Ieee as Ieee
 use lib.IntN.{pos, negℤ}
 use lib.ListN.{drop, length}
-"""
+use %s.declared.vertex.Vertex.{Vertex}
+""" % SPECS
 HELPERS = """
 abbrev got : File.Read File.Figure → Mesh.Mesh
 got (File.read f bytes) = f .mesh
@@ -82,11 +84,26 @@ def replaced_faces(given, answer):
     return "map (%s) (%s)" % (read, numbers("(%s)" % numbers(triple) for triple in triples)), numbers(signed)
 
 
+def strands(given, answer):
+    """Tag and k of every vertex of a refined mesh; none where no pass made one."""
+    depth, time, _, kind, *count = bytes.fromhex(given)[:8]
+    rows = [[int(word) for word in line.split()[2:]] for line in bytes.fromhex(answer).decode().split("\n") if line.startswith("m ")]
+    if len(rows) <= int.from_bytes(count, "big"):
+        return None
+    kind, time = ("cubes", "simplices")[kind], ("false", "true")[time]
+    run = "Refinement.run Book.%s %s Sheet.SHEET-LENT %d (meshIn (%s))" % (kind, time, depth, numbers(bytes.fromhex(given)))
+    found = "flatMap (λ (v : Vertex). v .tag ∷ v .k ∷ []) (%s .left .mesh .vertices)" % run
+    return found, numbers(itertools.chain.from_iterable(rows))
+
+
 def equations(count):
     for kind, seed in (("cubes", 1), ("simplices", 2)):
         inputs = reference("random", kind, seed, count, 5, 3, 1, 4)
         for given, answer in zip(inputs, reference("answers", "sheet", lines=inputs)):
             yield "Sheet.sheet (%s)" % numbers(bytes.fromhex(given)), numbers(bytes.fromhex(answer))
+        many = reference("random", kind, seed + 6, 10 * count, 4, 2, 2, 0)
+        told = map(strands, many, reference("answers", "strands", lines=many))
+        yield from itertools.islice(filter(None, told), count)
         inputs = reference("random", kind, seed + 2, count, 5, 3, 0, 0)
         meshes = ["meshIn (%s)" % numbers(bytes.fromhex(given)) for given in inputs]
         if kind == "cubes":

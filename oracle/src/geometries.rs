@@ -1,6 +1,6 @@
 //! The geometries of the crate `aljumeste`, which are what a caller of homotopy-graphics links, against the original Rust in reference/: a
-//! random mesh is refined, cut into simplices or given normals on both sides, and read from its file. A geometry lends its own memory, so
-//! 10 is due at the limit alone.
+//! random mesh is refined, cut into simplices or given normals on both sides, and read from its file. Tag and k of midpoints are held against document 02's
+//! U3. A geometry lends its own memory, so 10 is due at the limit alone.
 use crate::{
     geometry::{geometry, mesh},
     refinement::{described, number, Compared},

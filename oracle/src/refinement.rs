@@ -1,6 +1,7 @@
 //! The refinements against the original Rust in reference/, which gives every expected answer: the refusal, passes and sizes; every
 //! word of every list that is left, positions bit for bit; without a pass, every word of the first bench; and, after a refusal at the door,
-//! every lent word. Only what document 01 calls free goes uncompared.
+//! every lent word. Only what document 01 calls free goes uncompared. Tag and k are not the original's: they are held against the rule of document
+//! 02's U3, which the reference has written once more.
 use crate::{
     case::{unequal, Case},
     desk::{slices, Desk, Told, SLICES},
@@ -239,7 +240,11 @@ pub mod tests {
         reading::{self, Reading},
         KINDS,
     };
-    use reference::mesh::{Curve, Element, Vertex, LIMIT};
+    use reference::{
+        mesh::{Curve, Element, Vertex, LIMIT},
+        model::{Model, Strand},
+    };
+    use std::cmp::Reverse;
 
     const CASES: u64 = 20_000;
 
@@ -476,12 +481,16 @@ pub mod tests {
     ) -> impl Fn(Kind, &mut Desk, &Sizes, u8, u8) -> Told {
         move |kind, desk, sizes, depth, smooth_time| {
             let mut told = exports::subdivide(kind, desk, sizes, depth, smooth_time);
-            let bench = match told.answer[0] % 2 {
-                0 => &mut desk.first,
-                _ => &mut desk.second,
-            };
-            spoil(bench, &mut told);
+            spoil(bench_left(desk, told.answer[0]), &mut told);
             told
+        }
+    }
+
+    /// The bench of the last whole pass.
+    fn bench_left(desk: &mut Desk, passes: usize) -> &mut Bench {
+        match passes % 2 {
+            0 => &mut desk.first,
+            _ => &mut desk.second,
         }
     }
 
@@ -509,6 +518,51 @@ pub mod tests {
             let found = compare(&spoiled(spoil), Kind::Simplices, 1, 1_000);
             assert!(found.apart.is_some(), "{i} goes unnoticed");
         }
+    }
+
+    /// The library, and afterwards every vertex that is left has its tag and k by another rule than U3's.
+    fn by_rule(strand: Strand) -> impl Fn(Kind, &mut Desk, &Sizes, u8, u8) -> Told {
+        move |kind, desk, counts, depth, smooth_time| {
+            let before = desk.first.clone();
+            let told = exports::subdivide(kind, desk, counts, depth, smooth_time);
+            if told.number == 0 || told.number == 10 {
+                let [passes, left @ ..] = told.answer;
+                let bench = bench_left(desk, passes);
+                let mut refined = bench.mesh(kind, &sizes(&left));
+                Model::by(&before.mesh(kind, counts), strand).put_strands(passes, &mut refined);
+                for (marks, vertex) in bench.marks.chunks_mut(3).zip(&refined.verts) {
+                    marks[1..].copy_from_slice(&[vertex.tag, vertex.k]);
+                }
+            }
+            told
+        }
+    }
+
+    /// Each way to get U3 wrong is found: the first end, as the original has it; the greater k; the second end on a tie; k with a sign; the tag of one end
+    /// with the k of the other. And the rule itself is no wrong way.
+    #[test]
+    fn wrong_strands_are_noticed() {
+        let wrong: [Strand; 5] = [
+            |a, _| [a.tag, a.k],
+            |a, b| least(a, b, |end| Reverse(end.k)),
+            |a, b| least(b, a, |end| end.k),
+            |a, b| least(a, b, |end| end.k as i32),
+            |a, b| [a.tag, a.k.min(b.k)],
+        ];
+        for kind in KINDS {
+            for (i, strand) in wrong.into_iter().enumerate() {
+                let found = compare(&by_rule(strand), kind, 1, 1_000);
+                assert!(found.apart.is_some(), "{kind:?}: {i} goes unnoticed");
+            }
+            let right = |a: &Vertex, b: &Vertex| least(a, b, |end| end.k);
+            assert_eq!(compare(&by_rule(right), kind, 1, 1_000).apart, None);
+        }
+    }
+
+    /// Tag and k of the end with the least key, the first of two that are equal.
+    fn least<K: Ord>(a: &Vertex, b: &Vertex, key: impl Fn(&Vertex) -> K) -> [u32; 2] {
+        let end = if key(b) < key(a) { b } else { a };
+        [end.tag, end.k]
     }
 
     /// A refusal at the door that leaves its mark on a free cell is found.

@@ -1,4 +1,5 @@
-//! What the program `replay` reads, and what it must print: files of document 01's section 8 with the answers of the original Rust.
+//! What the program `replay` reads, and what it must print: files of document 01's section 8 with the answers of the original Rust, tag and k by document 02's
+//! U3.
 //! crates/replay/src/main.rt says how a file is stored.
 use crate::{
     case::row_words,

@@ -1,5 +1,5 @@
-//! Worked meshes: worked/*.txt have cases whose answers follow from document 01, with the sentence beside each, worked out by hand or by a
-//! separate calculation. Both the library and the reference are held to them.
+//! Worked meshes: worked/*.txt have cases whose answers follow from document 01, and for tag and k from document 02's U3, with the sentence beside
+//! each, worked out by hand or by a separate calculation. Both the library and the reference are held to them.
 use crate::{
     case::{row_words, words_for, Given},
     derived::{Answered, Call, Entry},
@@ -371,7 +371,7 @@ fn replayed(file: &str, count: usize, both: fn(&mut Worked) -> [String; 2]) {
 
 #[test]
 fn refinements_are_those_worked_out() {
-    replayed("refinements.txt", 167, refined);
+    replayed("refinements.txt", 180, refined);
 }
 
 #[test]

@@ -118,9 +118,9 @@ pub struct VertData {
     pub position: Vec4,
     /// The axes along which smoothing leaves the vertex where it is.
     pub boundary: [bool; 4],
-    /// A tag that is carried and not interpreted, where homotopy-graphics has a `Diagram0`.
+    /// A tag, where homotopy-graphics has a `Diagram0`: any number, and never interpreted. A midpoint has that of the end with the smaller `k`.
     pub generator: u32,
-    /// A number that is carried and not interpreted.
+    /// Any number. A midpoint has the smaller of its ends', with the tag beside it; on a tie both are of the first end. Nothing else goes by it.
     pub k: u32,
 }
 

@@ -1,7 +1,11 @@
-//! Document 01's tables through the geometries: P1 to P12, flags and time, the kept book, and the listing that the C example prints.
+//! Document 01's tables through the geometries: P1 to P12, flags and time, the kept book, and the listing that the C example prints; and the
+//! colour of a join, by document 02's U3.
 mod common;
 
-use aljumeste::{raw, CubicalGeometry, SimplicialGeometry, Vec4, VertData};
+use aljumeste::{
+    geom::{ElementData, Geometry, Vert},
+    raw, CubicalGeometry, SimplicialGeometry, Vec4, VertData,
+};
 use common::{cubes, curve, listing, simplices, v, vertex, xy, Even, Odd};
 
 #[test]
@@ -49,13 +53,7 @@ fn p4_p5_a_line_twice_and_its_reverse() {
     mesh.mk_line(v([0, 1]), Even);
     mesh.mk_line(v([1, 0]), Odd);
     mesh.subdivide(false, 1).unwrap();
-    let marks = |mesh: &CubicalGeometry, i| {
-        let VertData { generator, k, .. } = mesh.verts[v([i])[0]];
-        (generator, k)
-    };
     assert_eq!(mesh.verts.len(), 4);
-    // Tag and k of the first end.
-    assert_eq!((marks(&mesh, 2), marks(&mesh, 3)), ((100, 200), (101, 201)));
     let halves = [([0, 2], Even), ([2, 1], Even), ([1, 3], Odd), ([3, 0], Odd)];
     assert_eq!(
         mesh.lines.into_raw(),
@@ -120,9 +118,10 @@ fn p9_a_flat_cube() {
 #[test]
 fn p10_a_curve() {
     let mut mesh = simplices(3);
+    mesh.verts[v([2])[0]].k = 201;
     mesh.curves.push(curve(&[0, 1, 2], &[Even, Odd]));
     mesh.subdivide(false, 1).unwrap();
-    // The second key is [2,1]: its vertex has the tag of vertex 2.
+    // The second key is [2,1]: the k are equal, and its vertex has the tag of vertex 2, the first end.
     assert_eq!(mesh.verts[v([4])[0]].generator, 102);
     assert_eq!(
         mesh.curves.into_raw(),
@@ -155,6 +154,47 @@ fn flags_and_time() {
     let first = |mesh: &SimplicialGeometry| mesh.verts[v([0])[0]].position;
     assert_eq!(first(&still), Vec4::new(0., 2., 0., 0.));
     assert_eq!(first(&moved), Vec4::new(0., 2., 0., 2.));
+}
+
+/// Two vertices have tags 1 and 2 and these k, and lines.
+fn joined<E: ElementData<Line = [Vert; 2]>>(
+    mut mesh: Geometry<E>,
+    ks: [u32; 2],
+    lines: &[[usize; 2]],
+) -> Geometry<E> {
+    for (vert, (generator, k)) in mesh.verts.values_mut().zip([1, 2].into_iter().zip(ks)) {
+        (vert.generator, vert.k) = (generator, k);
+    }
+    for line in lines {
+        mesh.mk_line(v(*line), Even);
+    }
+    mesh
+}
+
+fn marks<E: ElementData>(mesh: &Geometry<E>) -> Vec<(u32, u32)> {
+    let marks = |vert: &VertData| (vert.generator, vert.k);
+    mesh.verts.values().map(marks).collect()
+}
+
+/// U3: "tag and k both come from the end with the smaller k, read as unsigned, the first end on a tie".
+#[test]
+fn the_colour_of_a_join() {
+    for (depth, ks, lines, made) in [
+        (1, [5, 3], &[[0, 1]][..], &[(2, 3)][..]),
+        (1, [5, 3], &[[0, 1], [1, 0]], &[(2, 3), (2, 3)]),
+        (1, [4, 4], &[[0, 1], [1, 0]], &[(1, 4), (2, 4)]),
+        (1, [u32::MAX, 0], &[[0, 1]], &[(2, 0)]),
+        (1, [0, u32::MAX], &[[0, 1]], &[(1, 0)]),
+        (2, [5, 3], &[[0, 1]], &[(2, 3); 3]),
+    ] {
+        let expected = [&[(1, ks[0]), (2, ks[1])], made].concat();
+        let mut cubes = joined(cubes(2), ks, lines);
+        cubes.subdivide(false, depth).unwrap();
+        assert_eq!(marks(&cubes), expected);
+        let mut simplices = joined(simplices(2), ks, lines);
+        simplices.subdivide(false, depth).unwrap();
+        assert_eq!(marks(&simplices), expected);
+    }
 }
 
 /// "a fresh book each pass (a cube with corners 0 = 3 and 2 = 7 meets an old pair again at depth 2)".

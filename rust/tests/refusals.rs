@@ -269,7 +269,7 @@ fn numbers_and_sentences() {
     }
 }
 
-/// Tag and k are carried, every word of them.
+/// Tag and k are carried, every bit of them. The k are equal, so that the first end gives both (document 02, U3).
 #[test]
 fn marks_are_carried() {
     let mut mesh = cubes(1);
@@ -280,6 +280,7 @@ fn marks_are_carried() {
         ..vertex([1., 2., 3., 4.])
     };
     let b = mesh.mk_vert(marked.clone());
+    mesh.verts[Vert::new(0)].k = u32::MAX;
     mesh.mk_line([b, Vert::new(0)], Odd);
     mesh.subdivide(true, 1).unwrap();
     let VertData {

@@ -11,7 +11,7 @@ use crate::field::word_at;
 use geom::answer::Ended;
 use judge::words::coordinate_holds;
 
-// A tag or k, which is not interpreted.
+// A tag or k: any word.
 pub fn carried(file: &[u8], at: usize) -> Ended
     ensures { λ r. ⌜ Passes r (now (file .entry)) at (at + 4) (wordAt (now (file .entry)) at) File.word ⌝ }
 {

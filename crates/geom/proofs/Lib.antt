@@ -39,6 +39,7 @@ pub mod Unread
 pub mod Spans
 -- What every pass keeps, over any form; what the refinement keeps of every accepted mesh;
 pub mod Steady
+pub mod Joins
 pub mod Pinned
 pub mod Apart
 pub mod Again

@@ -1,5 +1,5 @@
 -- The cases of document 01 that are marked P, P1 to P12: one list, one test that antt computes over it, and the theorem that it passes. With them
--- stand section 8's example and the cases that tell the natural mistakes which none of the twelve tells.
+-- stand section 8's example, the cases that tell the natural mistakes which none of the twelve tells, and joins of document 02's U3.
 -- Assumes nothing.
 use mathlib.Core.Path.{_≡_, refl}
 use mathlib.Core.Bool.{Bool, true, false, _&&_}
@@ -69,6 +69,12 @@ square n corners = mesh (replicate n (vertex 0 0)) [] (even (corners ∷ [])) []
 abbrev cube : ℕ → List ℕ → Mesh
 cube n corners = mesh (replicate n (vertex 0 0)) [] [] (even (corners ∷ [])) []
 
+-- two vertices with tags 1 and 2 and these k, with lines
+abbrev joined : ℕ → ℕ → List (List ℕ) → Mesh
+joined k₁ k₂ ls =
+    let tagged : ℕ → ℕ → Vertex = λ tag k. record { position = vertex 0 0 .position; flags = 0; tag = tag; k = k } in
+    mesh (tagged 1 k₁ ∷ tagged 2 k₂ ∷ []) (even ls) [] [] []
+
 -- curve 0,1,2 even, odd
 abbrev curve : Mesh
 curve = mesh (replicate 3 (vertex 0 0)) [] [] [] (record { tag = 7; vertices = 0 ∷ 1 ∷ 2 ∷ []; parities = Even ∷ Odd ∷ [] } ∷ [])
@@ -116,7 +122,7 @@ bits = Ieee.toBits binary32
 
 -- refined with every list lent to the limit, without smooth_time
 pub refined : Kind → ℕ → Mesh → Run
-unfolding Points4.sum Points4.scaled Points4.quotient Points4.midpoint Points4.origin Points4.added Points4.mean Points4.columns Book.find Book.seek Book.midpoint Book.each Book.place Book.mids Elements.pick Elements.pairsOf Elements.shut Elements.flat Elements.pieces Elements.assemble Rules.line Rules.divide Rules.steps Rules.between Rules.curve Rules.passBy Simplices.triangle Simplices.simplexPass Cubes.square Cubes.cube Cubes.cubePass Vertices.flagged Vertices.midpointIn Vertices.pairIn Mesh.curveVertices Mesh.sizesOf Smoothing.withMidpointsIn Smoothing.columnRule Smoothing.nothing Smoothing.ignored Smoothing.update Smoothing.toCorners Smoothing.gather Smoothing.gatheredIn Smoothing.replaced Smoothing.movedIn Smoothing.settledIn Smoothing.settledFromIn Smoothing.smoothedIn Refinement.passOver Refinement.fits Refinement.runFrom Refinement.run
+unfolding Points4.sum Points4.scaled Points4.quotient Points4.midpoint Points4.origin Points4.added Points4.mean Points4.columns Book.find Book.seek Book.midpoint Book.each Book.place Book.mids Elements.pick Elements.pairsOf Elements.shut Elements.flat Elements.pieces Elements.assemble Rules.line Rules.divide Rules.steps Rules.between Rules.curve Rules.passBy Simplices.triangle Simplices.simplexPass Cubes.square Cubes.cube Cubes.cubePass Vertices.flagged Vertices.strandIn Vertices.midpointIn Vertices.pairIn Mesh.curveVertices Mesh.sizesOf Smoothing.withMidpointsIn Smoothing.columnRule Smoothing.nothing Smoothing.ignored Smoothing.update Smoothing.toCorners Smoothing.gather Smoothing.gatheredIn Smoothing.replaced Smoothing.movedIn Smoothing.settledIn Smoothing.settledFromIn Smoothing.smoothedIn Refinement.passOver Refinement.fits Refinement.runFrom Refinement.run
 refined kind depth m = Refinement.run kind false (record { cells = LIMITS; book = LIMIT }) depth m
 
 abbrev after : Kind → ℕ → Mesh → Mesh
@@ -147,6 +153,10 @@ wholeOf kind r = (r .passes ∷ []) ∷ fileBytes kind (r .left .mesh) ∷ []
 -- the bits of x, y, z, w
 abbrev positions : List Vertex → List (List ℕ)
 positions = map λ (v : Vertex). map bits (v .position .x ∷ v .position .y ∷ v .position .z ∷ v .position .w ∷ [])
+
+-- tag and k
+abbrev strands : Mesh → List (List ℕ)
+strands m = map (λ (v : Vertex). v .tag ∷ v .k ∷ []) (m .vertices)
 
 -- a curve's vertices, and then the pairs of the book
 abbrev keysOf : Run → List (List ℕ)
@@ -283,6 +293,20 @@ cases =
     ∷ case (positions (after cubes 1 sided .vertices))
     (positions
     (vertex 2 0 ∷ vertex 6 0 ∷ vertex 2 6 ∷ vertex 6 6 ∷ vertex 4 0 ∷ vertex 4 4 ∷ vertex 2 4 ∷ vertex 6 4 ∷ vertex 4 6 ∷ []))
+    -- U3, line [0,1], k 5 and 3: the second end's tag and k, at every depth.
+    ∷ case (strands (after simplices 2 (joined 5 3 ((0 ∷ 1 ∷ []) ∷ []))))
+    ((1 ∷ 5 ∷ []) ∷ (2 ∷ 3 ∷ []) ∷ (2 ∷ 3 ∷ []) ∷ (2 ∷ 3 ∷ []) ∷ (2 ∷ 3 ∷ []) ∷ [])
+    -- In both directions: an accepted mesh whose book has [0,1] and [1,0], where the k differ.
+    ∷ case
+    (refusalFor cubes (joined 5 3 ((0 ∷ 1 ∷ []) ∷ (1 ∷ 0 ∷ []) ∷ []))
+    ∷ keysOf (refined cubes 1 (joined 5 3 ((0 ∷ 1 ∷ []) ∷ (1 ∷ 0 ∷ []) ∷ [])))
+    ++ strands (after cubes 1 (joined 5 3 ((0 ∷ 1 ∷ []) ∷ (1 ∷ 0 ∷ []) ∷ []))))
+    ([] ∷ (0 ∷ 1 ∷ []) ∷ (1 ∷ 0 ∷ []) ∷ (1 ∷ 5 ∷ []) ∷ (2 ∷ 3 ∷ []) ∷ (2 ∷ 3 ∷ []) ∷ (2 ∷ 3 ∷ []) ∷ [])
+    -- On a tie the first end, in both directions; and k is unsigned.
+    ∷ case (strands (after simplices 1 (joined 4 4 ((0 ∷ 1 ∷ []) ∷ (1 ∷ 0 ∷ []) ∷ []))))
+    ((1 ∷ 4 ∷ []) ∷ (2 ∷ 4 ∷ []) ∷ (1 ∷ 4 ∷ []) ∷ (2 ∷ 4 ∷ []) ∷ [])
+    ∷ case (strands (after simplices 1 (joined 0xFFFF_FFFF 0 ((0 ∷ 1 ∷ []) ∷ []))))
+    ((1 ∷ 0xFFFF_FFFF ∷ []) ∷ (2 ∷ 0 ∷ []) ∷ (2 ∷ 0 ∷ []) ∷ [])
     -- Exactly full lists, one short.
     ∷ case (roomOf 5 4 3 ∷ roomOf 3 2 1 ∷ roomOf 4 4 3 ∷ roomOf 5 3 3 ∷ roomOf 5 4 2 ∷ roomOf 2 2 1 ∷ roomOf 3 1 1 ∷ roomOf 3 2 0 ∷ [])
     ((2 ∷ [])

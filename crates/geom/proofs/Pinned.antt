@@ -1,9 +1,9 @@
 -- What a pass leaves alone: the flags, tag and k of every vertex, each coordinate whose axis is flagged, and w without smooth_time. A midpoint is flagged where both
--- ends are, and on such an axis it lies between them at every depth. And every tag, with its k, was one handed in.
+-- ends are, on such an axis it lies between them, and it has their strand, all at every depth. And every tag, with its k, was one handed in.
 -- Assumes nothing.
 use mathlib.Core.Path.{_≡_, refl, sym, ap, ap₂, _∙_, subst}
 use mathlib.Core.Bool.{Bool, true, false, cond, not, _&&_}
-use mathlib.Core.Logic.{_⊎_, inl, ⊎-elim}
+use mathlib.Core.Logic.{⊎-elim}
 use mathlib.Core.List.{List, [], _∷_, _++_, map}
 use Prim.Native.Nat.{ℕ, zero, suc, _+_, _-_, _*_, _/_, _%_, _^_, _≤_, _<_, min}
 use native.Mathlib.Nat.{add-zero}
@@ -18,10 +18,10 @@ use Rattle.geom.specs.Elements.{Lists}
 use Rattle.geom.specs.Passes.{pass}
 use Rattle.geom.specs.Form.{Form}
 use Rattle.geom.specs.Mesh.{MeshIn}
-use Rattle.geom.specs.Vertices.{flagged, strand, vertexIn, midpointIn, pairIn}
+use Rattle.geom.specs.Vertices.{flagged, strandIn, vertexIn, midpointIn, pairIn}
 use Rattle.geom.specs.Smoothing.{withMidpointsIn, GatheredIn, gatheredIn, replaced, movedIn, settledIn, settledFromIn, smoothedIn}
 use Rattle.geom.specs.Refinement.{StateIn, passOver, stateAfter, went}
-use Rattle.geom.specs.Soundness.{Axis, x-axis, y-axis, z-axis, w-axis, bit, on, Pinned, Kept, Middle, Inherits, entry}
+use Rattle.geom.specs.Soundness.{Axis, x-axis, y-axis, z-axis, w-axis, bit, on, Pinned, SameStrand, Kept, Middle, Inherits, entry}
 use Rattle.geom.specs.Between.{All, Well, Low, Rising, Good}
 use Rattle.geom.proofs.Lists.{and-false}
 use Rattle.geom.proofs.Rows.{getD-any}
@@ -30,11 +30,12 @@ use Rattle.geom.proofs.Well.{pass-grows}
 use Rattle.geom.proofs.Steps.{passes-good}
 use Rattle.geom.proofs.Left.{went-after}
 use Rattle.geom.proofs.Steady.{Steady}
+use Rattle.geom.proofs.Joins.{strand-self, strand-then, strand-back, strand-stays, one-end, one-colour}
 
 -- ---- what stays of a vertex
 
 kept-self : (F : Form) (time : Bool) (a : F .Vertex) → Kept F time a a
-kept-self F time a = record { flags = refl; tag = refl; k = refl; pinned = λ i f. refl; moment = λ e. refl }
+kept-self F time a = record { flags = refl; strand = strand-self F a; pinned = λ i f. refl; moment = λ e. refl }
 
 module _ {F : Form} {time : Bool} {a b : F .Vertex} (i : Axis) (s : Kept F time a b) where
   kept-pinned : Pinned F i a → Pinned F i b
@@ -47,8 +48,7 @@ kept-then : {F : Form} {time : Bool} {a b c : F .Vertex} → Kept F time a b →
 kept-then s t =
     record {
       flags = t .flags ∙ s .flags;
-      tag = t .tag ∙ s .tag;
-      k = t .k ∙ s .k;
+      strand = strand-then (s .strand) (t .strand);
       pinned = λ i f. t .pinned i (kept-pinned i s f) ∙ s .pinned i f;
       moment = λ e. t .moment e ∙ s .moment e;
     }
@@ -88,8 +88,7 @@ module _ (F : Form) where
           let parts = F .parts-of moved (F .flags v) (F .tag v) (F .k v) in
           record {
             flags = parts .1;
-            tag = parts .2;
-            k = parts .3;
+            strand = record { tag = parts .2; k = parts .3 };
             pinned = λ i f. ap (on (F .points) i) (parts .0) ∙ pin i (not-replaced time (F .flags v) (bit i) f);
             moment = λ e. ap (F .points .w) (parts .0) ∙ pin w-axis (no-time time (F .flags v) e);
           }
@@ -215,7 +214,7 @@ made-middle : (F : Form) (vs : List (F .Vertex)) (q : Pair) → Middle F (vertex
 unfolding pairIn midpointIn
 made-middle F vs q =
     let parts = F .parts-of _ _ _ _ in
-    record { flags = parts .1; pinned = λ i f g. ap (on (F .points) i) (parts .0) }
+    record { flags = parts .1; strand = record { tag = parts .2; k = parts .3 }; pinned = λ i f g. ap (on (F .points) i) (parts .0) }
 
 middle-pinned : {F : Form} {a b v : F .Vertex} (i : Axis) → Middle F a b v → Pinned F i a → Pinned F i b → Pinned F i v
 middle-pinned {F} {a} {b} i m f g = ap (λ (n : ℕ). flagged n (bit i)) (m .flags) ∙ and-flagged (F .flags a) (F .flags b) (bit i) ∙ ap₂ _&&_ f g
@@ -227,6 +226,7 @@ middle-stays :
 middle-stays {F} steady {time} {a} {b} {v} {a'} {b'} {v'} p q r m =
     record {
       flags = r .flags ∙ m .flags ∙ ap₂ bitAnd (sym (p .flags)) (sym (q .flags));
+      strand = strand-then (strand-back (strand-stays (p .strand) (q .strand))) (strand-then (m .strand) (r .strand));
       pinned = λ i f g.
           let f' = pinned-kept i p f in
           let g' = pinned-kept i q g in
@@ -342,33 +342,37 @@ module _ {F : Form} (kind : Kind) (time : Bool) (mesh : MeshIn F) (well : Well k
           subst (λ (x : Pair). Goal x (base + e)) (sym same)
           (middle-stays steady (old (q .first) (low .start)) (old (q .second) (low .stop)) made (made-middle F vs q))
 
+  -- a join has one colour
+  pub turned-after :
+      Steady F → (n e : ℕ) → e < length (state n .book)
+      → let vs = state n .mesh .vertices in
+      let q = entry (state n .book) e in
+      (a b v : F .Vertex) → SameStrand F (vertexIn F vs (q .first)) a → SameStrand F (vertexIn F vs (q .second)) b → Middle F b a v
+      → (F .k (vertexIn F vs (q .first)) ≡ F .k (vertexIn F vs (q .second)) → ⊥)
+      → SameStrand F (vertexIn F vs (base + e)) v
+  turned-after steady n e h a b v p q m differ = one-colour (middle-after steady n e h) p q m differ
+
   -- ---- tags
 
-  -- tag and k are those of one end
-  one-end : (a b : F .Vertex) → (strand a b ≡ a) ⊎ (strand a b ≡ b)
-  unfolding strand
-  one-end a b = inl refl
-
-  -- the tag and the k of a vertex, as those of another
-  as-another : (a b : F .Vertex) → F .tag b ≡ F .tag a → F .k b ≡ F .k a → Inherits F (mesh .vertices) a → Inherits F (mesh .vertices) b
-  as-another a b t k h = record { number = h .number; below = h .below; tag = t ∙ h .tag; k = k ∙ h .k }
+  -- what has the strand of a vertex has the tag and k that it inherits
+  inherits-then : {a b : F .Vertex} → Inherits F (mesh .vertices) a → SameStrand F a b → Inherits F (mesh .vertices) b
+  inherits-then h p = record { number = h .number; below = h .below; strand = strand-then (h .strand) p }
 
   pair-tagged :
       (vs : List (F .Vertex)) (q : Pair) → Inherits F (mesh .vertices) (vertexIn F vs (q .first)) → Inherits F (mesh .vertices) (vertexIn F vs (q .second))
       → Inherits F (mesh .vertices) (pairIn F vs q)
-  unfolding pairIn midpointIn
   pair-tagged vs q f g =
       let a = vertexIn F vs (q .first) in
       let b = vertexIn F vs (q .second) in
-      let parts = F .parts-of (F .midpoint (F .position a) (F .position b)) (bitAnd (F .flags a) (F .flags b)) (F .tag (strand a b)) (F .k (strand a b)) in
+      let p = made-middle F vs q .strand in
       ⊎-elim
-      (λ (e : strand a b ≡ a). as-another a _ (parts .2 ∙ ap (F .tag) e) (parts .3 ∙ ap (F .k) e) f)
-      (λ (e : strand a b ≡ b). as-another b _ (parts .2 ∙ ap (F .tag) e) (parts .3 ∙ ap (F .k) e) g)
-      (one-end a b)
+      (λ (e : strandIn F a b ≡ a). inherits-then f (rw e at p))
+      (λ (e : strandIn F a b ≡ b). inherits-then g (rw e at p))
+      (one-end F a b)
 
   pub tagged-after : (n i : ℕ) → i < length (state n .mesh .vertices) → Inherits F (mesh .vertices) (vertexIn F (state n .mesh .vertices) i)
   unfolding stateAfter passOver
-  tagged-after zero i h = record { number = i; below = h; tag = refl; k = refl }
+  tagged-after zero i h = record { number = i; below = h; strand = strand-self F _ }
   tagged-after (suc n) i h = go (tagged-after n) (decLt i (length vs))
     where
       s : StateIn F
@@ -380,11 +384,8 @@ module _ {F : Form} (kind : Kind) (time : Bool) (mesh : MeshIn F) (well : Well k
       us : List (F .Vertex)
       us = passOver kind time base s .mesh .vertices
 
-      onto : (a b : F .Vertex) → Kept F time a b → Inherits F (mesh .vertices) a → Inherits F (mesh .vertices) b
-      onto a b s h = as-another a b (s .tag) (s .k) h
-
       go : ((j : ℕ) → j < length vs → Inherits F (mesh .vertices) (vertexIn F vs j)) → Dec (i < length vs) → Inherits F (mesh .vertices) (vertexIn F us i)
-      go before (yes l) = onto (vertexIn F vs i) (vertexIn F us i) (pass-old kind time base s i l) (before i l)
+      go before (yes l) = inherits-then (before i l) (pass-old kind time base s i l .strand)
       go before (no f) =
           let j = i - length vs in
           let i-is : length vs + j ≡ i = past i (length vs) f in
@@ -392,5 +393,4 @@ module _ {F : Form} (kind : Kind) (time : Bool) (mesh : MeshIn F) (well : Well k
           let q = entry (added kind base s) j in
           let low = added-low n j j-new in
           subst (λ (x : ℕ). Inherits F (mesh .vertices) (vertexIn F us x)) i-is
-          (onto (pairIn F vs q) (vertexIn F us (length vs + j)) (pass-new kind time base s j j-new)
-          (pair-tagged vs q (before (q .first) (low .start)) (before (q .second) (low .stop))))
+          (inherits-then (pair-tagged vs q (before (q .first) (low .start)) (before (q .second) (low .stop))) (pass-new kind time base s j j-new .strand))

@@ -1,11 +1,11 @@
--- Document 01, section 2: the vertex, over a form, and the vertex that is made in the middle of two.
+-- Document 01, section 2, and document 02, U3: the vertex, over a form, and the vertex that is made in the middle of two.
 -- Says nothing of which pairs get one (Book), nor of what smoothing does with it afterwards (Smoothing).
 -- Assumes nothing. Of a flag word any number is taken; that it has four bits is judged elsewhere (Refusals).
-use mathlib.Core.Bool.{Bool}
+use mathlib.Core.Bool.{Bool, cond}
 use mathlib.Core.List.{List}
 use Prim.Native.Nat.{ℕ, _/_, _%_, _^_}
 use lib.Bits.{bitAnd}
-use lib.Dec.{eqb}
+use lib.Dec.{eqb, ltb}
 use lib.ListN.{getD}
 use Rattle.numbers.specs.declared.vec4.Vec4.{Vec4}
 use Rattle.geom.specs.declared.vertex.Vertex.{Vertex}
@@ -17,18 +17,18 @@ use Rattle.geom.specs.Floats.{binary32}
 unfoldable pub flagged : ℕ → ℕ → Bool
 flagged flags i = eqb (flags / 2 ^ i % 2) 1
 
--- the end whose tag and k a midpoint takes: the first
-unfoldable pub strand : {A : Type 0} → A → A → A
-strand a b = a
+-- U3: the end whose tag and k a midpoint takes, the one with the smaller k, and the first on a tie. Only here is k interpreted.
+unfoldable pub strandIn : (F : Form) → F .Vertex → F .Vertex → F .Vertex
+strandIn F a b = cond (ltb (F .k b) (F .k a)) b a
 
--- the form's midpoint, flags on where both are on, tag and k of the first end
+-- the form's midpoint, flags on where both are on, tag and k both of that end
 unfoldable pub midpointIn : (F : Form) → F .Vertex → F .Vertex → F .Vertex
 midpointIn F a b =
     F .vertex
     (F .midpoint (F .position a) (F .position b))
     (bitAnd (F .flags a) (F .flags b))
-    (F .tag (strand a b))
-    (F .k (strand a b))
+    (F .tag (strandIn F a b))
+    (F .k (strandIn F a b))
 
 -- the vertex with a number; past the list's end one at the origin
 abbrev pub vertexIn : (F : Form) → List (F .Vertex) → ℕ → F .Vertex
@@ -43,6 +43,9 @@ unfoldable pub pairIn : (F : Form) → List (F .Vertex) → Pair → F .Vertex
 pairIn F vertices q = midpointIn F (vertexIn F vertices (q .first)) (vertexIn F vertices (q .second))
 
 -- ---- in binary32: position 0.5·(A + B) per axis
+
+abbrev pub strand : Vertex → Vertex → Vertex
+strand = strandIn binary32
 
 abbrev pub midpointVertex : Vertex → Vertex → Vertex
 midpointVertex = midpointIn binary32

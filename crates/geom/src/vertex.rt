@@ -6,7 +6,8 @@ pub struct Vertex {
     pub position: Vec4,
     // Bit i is axis i; none of the higher bits is set in an accepted mesh.
     pub flags: u32,
-    // Neither is interpreted.
+    // Any word.
     pub tag: u32,
+    // Any word. Where a midpoint is made, the end with the smaller one gives it tag and k.
     pub k: u32,
 }

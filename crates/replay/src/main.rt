@@ -1,4 +1,4 @@
-// Replays stored files with stored answers of the Rust: `data/files` has what is read, `stdout` what must be printed.
+// Replays stored files with stored answers of the Rust, tag and k by document 02's U3: `data/files` has what is read, `stdout` what must be printed.
 // Both are written by the comparison under oracle/, and no word of them comes from this program.
 //
 // A record is five bytes (the length of its name, depth, smooth_time, and the length of the file, high byte first), the name, and a file of

@@ -4,7 +4,7 @@ ghost use Prim.Native.Nat.{_+_, _*_, _≤_};
 ghost use lib.ListN.{length};
 ghost use lib.Seq.{sets};
 ghost use Rattle.geom.specs.Memory.{vertexRow};
-ghost use Rattle.geom.specs.Vertices.{midpointVertex};
+ghost use Rattle.geom.specs.Vertices.{strand, midpointVertex};
 ghost use Rattle.vertices.specs.Cells.{positionWords, markWords, pointRow, Row};
 use geom::vertex::Vertex;
 use geom::words::number;
@@ -59,17 +59,28 @@ pub fn put_marks(marks: &mut [u32], i: usize, v: Vertex)
     marks[at + 2] = v.k;
 }
 
-// Position 0.5·(A + B) per axis, flags on where both are on, tag and k of the first end.
+// The end whose tag and k a midpoint takes: the one with the smaller k, and the first on a tie.
+fn strand(a: Vertex, b: Vertex) -> Vertex
+    ensures { λ r. ⌜ r ≡ strand a b ⌝ }
+{
+    if b.k < a.k {
+        return b;
+    }
+    a
+}
+
+// Position 0.5·(A + B) per axis, flags on where both are on, tag and k both of one end.
 pub fn midpoint_vertex(a: Vertex, b: Vertex) -> Vertex
     ensures { λ r. ⌜ r ≡ midpointVertex a b ⌝ }
 {
     let p = a.position;
     let q = b.position;
     let position = p.midpoint(q);
+    let end = strand(a, b);
     Vertex {
         position,
         flags: a.flags & b.flags,
-        tag: a.tag,
-        k: a.k,
+        tag: end.tag,
+        k: end.k,
     }
 }

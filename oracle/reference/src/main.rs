@@ -1,10 +1,10 @@
 //! The reference by words:
 //!
 //! - `sheet`: an input (depth byte, smooth_time byte, file) from standard input; the listing or `refused N after P`.
-//! - `triangulate`, `replaced`, `normals3`, `normals4`: the same input; a listing of what the refined mesh gives.
+//! - `strands`, `triangulate`, `replaced`, `normals3`, `normals4`: the same input; a listing of what the refined mesh gives.
 //! - `random KIND SEED COUNT [VERTS ELEMENTS DEPTH DAMAGED]`: COUNT inputs as hexadecimal, one a line; KIND is `cubes`
 //!   or `simplices`; one input in DAMAGED is damaged, none at 0.
-//! - `answers [sheet|triangulate|replaced|normals3|normals4]`: such lines from standard input; each one's output as hexadecimal.
+//! - `answers [sheet|strands|triangulate|replaced|normals3|normals4]`: such lines from standard input; each one's output as hexadecimal.
 
 use std::{
     env,
@@ -18,9 +18,10 @@ use reference::{
     sheet::{Sheet, MOST_BYTES},
 };
 
-const USAGE: &str = "usage: reference sheet | triangulate | replaced | normals3 | normals4 < INPUT
+const USAGE: &str =
+    "usage: reference sheet | strands | triangulate | replaced | normals3 | normals4 < INPUT
        reference random cubes|simplices SEED COUNT [VERTS ELEMENTS DEPTH DAMAGED]
-       reference answers [sheet|triangulate|replaced|normals3|normals4] < HEX LINES";
+       reference answers [sheet|strands|triangulate|replaced|normals3|normals4] < HEX LINES";
 
 fn main() -> ExitCode {
     let args: Vec<String> = env::args().skip(1).collect();

@@ -6,6 +6,7 @@
 use crate::{
     geom::{CubeData, CubicalGeometry, SimplexData, SimplicialGeometry},
     mesh::{Curve, Element, Kind, Lent, Mesh, Sizes, Vertex, LIMIT},
+    model::Model,
 };
 
 /// "coordinates finite, from -1,024 to 1,024".
@@ -314,7 +315,7 @@ pub struct Refined {
     pub ended: Ended,
 }
 
-/// The carried `subdivide` on a copy of an accepted mesh.
+/// The carried `subdivide` on a copy of an accepted mesh, with the tags and k that it gives: those of the first ends.
 #[must_use]
 pub fn subdivided(mesh: &Mesh, depth: u8, smooth_time: bool) -> Mesh {
     match mesh.kind {
@@ -333,9 +334,16 @@ pub fn subdivided(mesh: &Mesh, depth: u8, smooth_time: bool) -> Mesh {
 
 /// Refines an accepted mesh pass by pass and stops before the first pass whose result would exceed a lent length or
 /// the limit. The book's size is the number of vertices made since the start. The carried code keeps its book through
-/// one `subdivide` call alone, so the state after d passes is that of a call of depth d from the start.
+/// one `subdivide` call alone, so the state after d passes is that of a call of depth d from the start. All is the carried code's but tags and k,
+/// which are the model's: "Tags and k leave the oracle runs" (document 02, U3).
 #[must_use]
 pub fn refine_within(mesh: &Mesh, lent: &Lent, depth: u8, smooth_time: bool) -> Refined {
+    let mut refined = carried_within(mesh, lent, depth, smooth_time);
+    Model::new(mesh).put_strands(refined.passes, &mut refined.mesh);
+    refined
+}
+
+fn carried_within(mesh: &Mesh, lent: &Lent, depth: u8, smooth_time: bool) -> Refined {
     let mut left = mesh.clone();
     for pass in 1..=depth {
         let next = subdivided(mesh, pass, smooth_time);

@@ -1,5 +1,6 @@
-//! Sections 2 to 4 as a model, written from document 01's sentences alone: nothing of the carried code is asked. The carried code is held
-//! against it, and the ledgers of section 5 are refined over its book.
+//! Sections 2 to 4 as a model, written from document 01's sentences alone, with document 02's U3 for tag and k: nothing of the carried code is
+//! asked. The carried code is held against it, the ledgers of section 5 are refined over its book, and the tags and k that are expected of
+//! a refinement are its own.
 
 use std::collections::HashMap;
 
@@ -16,10 +17,22 @@ fn column_rule(c: [Point; 4], w: [f32; 4]) -> Point {
     axes(|i| ((c[0][i] * w[0] + c[1][i] * w[1]) + c[2][i] * w[2]) + c[3][i] * w[3])
 }
 
-/// A mesh under refinement, and the one book of all its passes.
+/// The tag and k of the vertex that is made between two.
+pub type Strand = fn(&Vertex, &Vertex) -> [u32; 2];
+
+/// U3: "tag and k both come from the end with the smaller k, read as unsigned, the first end on a tie". Of several least ones `min_by_key` gives the
+/// first.
+#[must_use]
+pub fn strand(first: &Vertex, second: &Vertex) -> [u32; 2] {
+    let end = [first, second].into_iter().min_by_key(|end| end.k).unwrap();
+    [end.tag, end.k]
+}
+
+/// A mesh under refinement, the one book of all its passes, and its rule for tag and k.
 pub struct Model {
     pub mesh: Mesh,
     book: HashMap<[u32; 2], u32>,
+    strand: Strand,
 }
 
 /// Section 3's pieces of a tetrahedron: places 0 to 3 are the corners, 4 to 9 the midpoints 0 to 5.
@@ -49,9 +62,16 @@ fn place(cube: &[u32], at: [usize; 3]) -> [u32; 2] {
 impl Model {
     #[must_use]
     pub fn new(mesh: &Mesh) -> Self {
+        Self::by(mesh, strand)
+    }
+
+    /// With another rule for tag and k.
+    #[must_use]
+    pub fn by(mesh: &Mesh, strand: Strand) -> Self {
         Self {
             mesh: mesh.clone(),
             book: HashMap::new(),
+            strand,
         }
     }
 
@@ -68,12 +88,14 @@ impl Model {
             return *v;
         }
         let (p, q) = (self.position(a), self.position(b));
-        let (first, second) = (self.mesh.verts[a as usize], self.mesh.verts[b as usize]);
+        let (first, second) = (&self.mesh.verts[a as usize], &self.mesh.verts[b as usize]);
+        let [tag, k] = (self.strand)(first, second);
         let v = self.mesh.verts.len() as u32;
         self.mesh.verts.push(Vertex {
             bits: axes(|i| 0.5 * (p[i] + q[i])).map(f32::to_bits),
             flags: first.flags & second.flags,
-            ..first
+            tag,
+            k,
         });
         self.book.insert([a, b], v);
         v
@@ -94,7 +116,16 @@ impl Model {
         self.smooth(smooth_time);
     }
 
-    /// A pass but for its smoothing: every list and the book; no vertex number waits for a coordinate.
+    /// The tag and k of every vertex of a mesh that this one became in so many passes.
+    pub fn put_strands(mut self, passes: usize, refined: &mut Mesh) {
+        (0..passes).for_each(|_| self.lists());
+        assert_eq!(refined.verts.len(), self.mesh.verts.len());
+        for (vertex, own) in refined.verts.iter_mut().zip(&self.mesh.verts) {
+            (vertex.tag, vertex.k) = (own.tag, own.k);
+        }
+    }
+
+    /// A pass but for its smoothing: every list, the book, tags and k; none of them waits for a coordinate.
     pub fn lists(&mut self) {
         let old = self.mesh.clone();
         self.mesh.lines.clear();

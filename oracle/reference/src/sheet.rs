@@ -1,5 +1,5 @@
 //! The program `sheet` of document 01, section 8, as a function from input bytes to output, and the same input taken
-//! on to triangulation and normals.
+//! on to triangulation and normals, or asked for its tags.
 
 use crate::{
     file,
@@ -18,6 +18,7 @@ pub const MOST_BYTES: usize = 65_536;
 #[derive(Copy, Clone, Debug, PartialEq, Eq)]
 pub enum Sheet {
     Mesh,
+    Strands,
     Triangulated,
     Replaced,
     Normals3,
@@ -30,6 +31,7 @@ impl Sheet {
     pub fn named(word: &str) -> Option<Self> {
         match word {
             "sheet" => Some(Self::Mesh),
+            "strands" => Some(Self::Strands),
             "triangulate" => Some(Self::Triangulated),
             "replaced" => Some(Self::Replaced),
             "normals3" => Some(Self::Normals3),
@@ -49,6 +51,7 @@ impl Sheet {
         };
         match (self, mesh.kind) {
             (Self::Mesh, _) => listing::mesh(passes, &mesh),
+            (Self::Strands, _) => strands(&mesh),
             (Self::Triangulated, Kind::Cubes) => listing::mesh(passes, &triangulated(&mesh)),
             (Self::Replaced, Kind::Cubes) => triangles(&mesh),
             (Self::Triangulated | Self::Replaced, Kind::Simplices) => "not cubes\n".to_string(),
@@ -56,6 +59,14 @@ impl Sheet {
             (Self::Normals4, _) => listing::normals(passes, &normals_4d(&simplices(mesh))),
         }
     }
+}
+
+/// Document 02's U3: number, tag and k of each vertex, a line each.
+fn strands(mesh: &Mesh) -> String {
+    let lines = mesh.verts.iter().enumerate();
+    lines
+        .map(|(i, v)| format!("m {i} {} {}\n", v.tag, v.k))
+        .collect()
 }
 
 /// Document 02's U8: the ledger of cubes with each square replaced by triangles. An entry a line, with its number as it is read.

@@ -1,5 +1,5 @@
-//! Where document 01 asks for another answer than the carried Rust gives, with the smallest input that shows it.
-//! Everywhere else, on accepted meshes with enough space, tests/document.rs finds them equal.
+//! Where document 01, or document 02 after it, asks for another answer than the carried Rust gives, with the smallest input that
+//! shows it. Everywhere else, on accepted meshes with enough space, tests/document.rs finds them equal.
 
 mod common;
 
@@ -25,6 +25,31 @@ fn one_vertex() -> SimplicialGeometry {
         k: 0,
     });
     geom
+}
+
+/// A join of two strands, line [0,1] with tags 1 and 2, k 5 and 3: the Rust gives its midpoint tag and k of the first end; here, by U3, of the
+/// end with the smaller k. Where the k are equal, or the first is the smaller, both give the same.
+#[test]
+fn the_colour_of_a_join() {
+    for (ks, there, here) in [
+        ([5, 3], (1, 5), (2, 3)),
+        ([u32::MAX, 0], (1, u32::MAX), (2, 0)),
+        ([3, 5], (1, 3), (1, 3)),
+        ([0, u32::MAX], (1, 0), (1, 0)),
+        ([4, 4], (1, 4), (1, 4)),
+    ] {
+        for kind in [Kind::Cubes, Kind::Simplices] {
+            let mut mesh = with_verts(kind, 2);
+            for (i, k) in ks.into_iter().enumerate() {
+                (mesh.verts[i].tag, mesh.verts[i].k) = (1 + i as u32, k);
+            }
+            mesh.lines = vec![even(&[0, 1])];
+            let carried = subdivided(&mesh, 1, false);
+            let refined = refine_within(&mesh, &Lent::enough(), 1, false).mesh;
+            assert_eq!((carried.verts[2].tag, carried.verts[2].k), there);
+            assert_eq!((refined.verts[2].tag, refined.verts[2].k), here);
+        }
+    }
 }
 
 /// A curve without vertices: the Rust panics at depth 1 and says nothing at depth 0; here 8 at any depth.

@@ -1,5 +1,7 @@
 //! The carried Rust against models written from document 01's sentences alone (sections 2 to 4 in `model`, 5 in `ledger`,
 //! 7 in `gathered`, the rest here), on random meshes: every list, every bit, tags and k; then the ledger over what the carried Rust makes.
+//! Of tag and k the model is told the carried rule here, the first end's: so it is seen that document 02's U3, which a model has otherwise,
+//! is asked about the same ends in the same order, and that nothing but the rule differs.
 
 mod common;
 
@@ -8,9 +10,12 @@ use reference::{
     ledger::{ledger, refined},
     memory::{normals_3d, normals_4d, subdivided, triangulated, Normal},
     mesh::{Element, Kind, Mesh},
-    model::Model,
+    model::{Model, Strand},
     random::{self, Bounds, Rng},
 };
+
+/// Section 2: "tag and k of the first end".
+const FIRST_END: Strand = |first, _| [first.tag, first.k];
 
 /// Section 6.
 fn cut(mesh: &Mesh) -> Mesh {
@@ -72,7 +77,7 @@ fn compare(kind: Kind, seeds: std::ops::Range<u64>, bounds: &Bounds) {
         let smooth_time = rng.once_in(2);
         let depth = rng.below(bounds.depth + 1) as u8;
 
-        let mut model = Model::new(&mesh);
+        let mut model = Model::by(&mesh, FIRST_END);
         let mut faces = ledger(&mesh);
         for _ in 0..depth {
             model.pass(smooth_time);
@@ -159,7 +164,7 @@ fn every_small_element_is_as_document_01_says() {
             };
             let mut mesh = common::with_verts(kind, below as usize);
             list(&mut mesh).push(element.clone());
-            let (mut model, mut faces) = (Model::new(&mesh), ledger(&mesh));
+            let (mut model, mut faces) = (Model::by(&mesh, FIRST_END), ledger(&mesh));
             for pass in 1..=depth {
                 model.pass(true);
                 faces = refined(&faces, &model);

@@ -63,7 +63,7 @@ fn p5_a_line_and_its_reverse() {
             after.lines,
             [even(&[0, 2]), even(&[2, 1]), odd(&[1, 3]), odd(&[3, 0])]
         );
-        // Tag and k of the first end.
+        // The carried code gives tag and k of the first end (tests/differences.rs).
         assert_eq!((after.verts[2].tag, after.verts[2].k), (100, 200));
         assert_eq!((after.verts[3].tag, after.verts[3].k), (101, 201));
     }
@@ -136,7 +136,7 @@ fn p10_curve() {
         mesh.curves = vec![curve(&[0, 1, 2], &[0, 1])];
         let after = subdivided(&mesh, 1, false);
         assert_eq!(after.curves, [curve(&[0, 3, 1, 4, 2], &[0, 0, 1, 1])]);
-        // The second key is [2,1]: its vertex has the tag of vertex 2.
+        // The second key is [2,1]: its vertex has the tag of vertex 2 in the carried code.
         assert_eq!(after.verts[4].tag, 102);
     }
 }
@@ -230,8 +230,8 @@ fn full_lists_and_one_short() {
         mesh.areas = vec![even(&(0..area as u32).collect::<Vec<_>>())];
         mesh.volumes = vec![odd(&(0..volume as u32).collect::<Vec<_>>())];
         mesh.curves = vec![curve(&[6, 7, 5], &[1, 0])];
-        let wanted = subdivided(&mesh, 2, true);
-        let before = subdivided(&mesh, 1, true);
+        let after = |depth| refine_within(&mesh, &Lent::enough(), depth, true).mesh;
+        let (wanted, before) = (after(2), after(1));
         let full = Lent {
             lists: wanted.sizes(),
             book: wanted.verts.len() - 8,
