@@ -5,8 +5,9 @@
 //! ultraviolet's) and little else:
 //! - What can be refused answers a `Result` with a [`Refusal`]: [`subdivide`](CubicalGeometry::subdivide), `compute_normals_3d` and
 //!   `compute_normals_4d`. `SimplicialGeometry::from` panics where [`triangulated`](CubicalGeometry::triangulated) answers a refusal.
-//! - A generator is a 32-bit tag and `k` a 32-bit number; for homotopy-graphics' `usize::MAX` stands `u32::MAX`. A midpoint has both of the end with the
-//!   smaller `k`, of the first end on a tie, and not always of the first: so a join of two strands has one colour, whichever way its line goes.
+//! - A generator is a 32-bit tag and `k` a 32-bit number; for homotopy-graphics' `usize::MAX` stands `u32::MAX`. A midpoint has both of the end
+//!   with the smaller `k`, of the first end on a tie, where homotopy-graphics always takes the first: so where the `k` differ, a join of two strands
+//!   has one colour whichever way its line goes.
 //! - A vertex without a normal has +0 in every place, and not NaN.
 //! - [`read`] is new; inflation and styles are left out.
 //!
