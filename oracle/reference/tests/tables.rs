@@ -6,6 +6,7 @@ use common::{curve, even, odd, positions, vertex, with_verts};
 use reference::{
     memory::{refine_within, subdivided, Ended, Handed},
     mesh::{Kind, Lent, Mesh},
+    model::Model,
     random::{self, Bounds, Rng},
     sheet::{self, Sheet},
 };
@@ -230,7 +231,12 @@ fn full_lists_and_one_short() {
         mesh.areas = vec![even(&(0..area as u32).collect::<Vec<_>>())];
         mesh.volumes = vec![odd(&(0..volume as u32).collect::<Vec<_>>())];
         mesh.curves = vec![curve(&[6, 7, 5], &[1, 0])];
-        let after = |depth| refine_within(&mesh, &Lent::enough(), depth, true).mesh;
+        // The carried code's mesh, with the model's tags and k.
+        let after = |passes: u8| {
+            let mut left = subdivided(&mesh, passes, true);
+            Model::new(&mesh).put_strands(passes.into(), &mut left);
+            left
+        };
         let (wanted, before) = (after(2), after(1));
         let full = Lent {
             lists: wanted.sizes(),
