@@ -139,7 +139,9 @@ uint8_t aljumeste_triangulate(
     uint32_t *tetrahedra, size_t tetrahedra_words, size_t answer[7]);
 
 /* The normals of a mesh of simplices at its triangles: three numbers for each vertex, a direction, or +0 in every place where there is
- * none. */
+ * none. An odd triangle counts with the other sign, 1 minus twice its parity. With every parity changed a vertex without a direction stays
+ * so, each component whose sum isn't zero changes its sign bit alone, and every other is +0 both times. (A sum that isn't zero may round
+ * to a zero when it is normalised; then 0 and -0 stand opposite.) */
 uint8_t aljumeste_compute_normals_3d(
     const float *positions, size_t positions_words, const uint32_t *marks, size_t marks_words,
     const uint32_t *points, size_t points_words, const uint32_t *lines, size_t lines_words,
@@ -147,7 +149,7 @@ uint8_t aljumeste_compute_normals_3d(
     const uint32_t *curves, size_t curves_words, const uint32_t *steps, size_t steps_words,
     const size_t sizes[7], float *normals, size_t normals_words);
 
-/* The same at its tetrahedra: four numbers for each vertex. */
+/* The same at its tetrahedra: four numbers for each vertex, on the same terms. */
 uint8_t aljumeste_compute_normals_4d(
     const float *positions, size_t positions_words, const uint32_t *marks, size_t marks_words,
     const uint32_t *points, size_t points_words, const uint32_t *lines, size_t lines_words,

@@ -4,9 +4,9 @@
     oracle/definitions.py [COUNT]      COUNT random meshes of each kind and each sort (6)
 
 The package oracle/reference makes random inputs and says what the Rust makes of them: what `sheet` prints (some of the inputs are damaged), the
-triangulation, and both normals; and what document 02, written again there, makes of them: U3 of tags and k, U8 of the ledger of cubes. Each answer becomes
-an equation about the definitions, `sheet INPUT ≡ ANSWER`, in a copy of the repository, and antt proves it by computing both sides. One equation that
-does not hold is printed, and the exit status is 1.
+triangulation, and both normals; and what document 02, written again there, makes of them: U3 of tags and k, U5 of every parity, U8 of the ledger of cubes.
+Each answer becomes an equation about the definitions, `sheet INPUT ≡ ANSWER`, in a copy of the repository, and antt proves it by computing both sides. One
+equation that does not hold is printed, and the exit status is 1.
 """
 import glob
 import itertools
@@ -72,6 +72,24 @@ def normal_cells(answer, width):
     return [cell for row in rows for cell in ([0] * width if row == ["flat"] else [int(word, 16) for word in row])]
 
 
+def shaded(width, mesh, answer):
+    """The cells of a mesh's normals."""
+    cells = "flatMap Numbers-Normal.cells%d (Normals.normals%d (%s))" % (width, width, mesh)
+    return "map (Ieee.toBits Ieee.binary32) (%s)" % cells, numbers(normal_cells(bytes.fromhex(answer).decode(), width))
+
+
+def turned(given, listing, *normals):
+    """A mesh with every parity changed, and its normals; none where a list has no parity, or where all normals are Flat."""
+    lines = bytes.fromhex(listing).decode().split("\n")
+    if {line[0] for line in lines if line.endswith(("e", "o"))} != set("lasc"):
+        return None
+    mesh = "Turning.flippedMesh (meshIn (%s))" % numbers(bytes.fromhex(given))
+    told = [shaded(width, mesh, answer) for width, answer in zip((3, 4), normals)]
+    if any(set(cells.split(" ∷ ")) == {"0", "[]"} for _, cells in told):
+        return None
+    return [("Listing.listing 0 (%s)" % mesh, numbers(bytes.fromhex(listing))), *told]
+
+
 def replaced_faces(given, answer):
     """A ledger of cubes with each square replaced, as it is read: the number of every triple of the mesh's vertices, those without an entry too."""
     rows = [[int(word) for word in line.split()[1:]] for line in bytes.fromhex(answer).decode().split("\n") if line.startswith("f ")]
@@ -117,8 +135,11 @@ def equations(count):
                     yield replaced_faces(given, answer)
         for width in (3, 4):
             for mesh, answer in zip(meshes, reference("answers", "normals%d" % width, lines=inputs)):
-                cells = "flatMap Numbers-Normal.cells%d (Normals.normals%d (%s))" % (width, width, mesh)
-                yield "map (Ieee.toBits Ieee.binary32) (%s)" % cells, numbers(normal_cells(bytes.fromhex(answer).decode(), width))
+                yield shaded(width, mesh, answer)
+        if kind == "simplices":
+            many = reference("random", kind, seed + 8, 10 * count, 5, 3, 0, 0)
+            told = map(turned, many, *(reference("answers", sort, lines=many) for sort in ("turned", "turned3", "turned4")))
+            yield from itertools.chain.from_iterable(itertools.islice(filter(None, told), (count + 1) // 2))
 
 
 def main():

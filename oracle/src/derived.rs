@@ -213,30 +213,42 @@ pub fn differs(call: &Call, engine: Engine) -> Result<u8, String> {
 
 /// One call. One in four has something wrong.
 fn draw(rng: &mut Rng, entry: Entry) -> Drawn<Call> {
-    let bounds = Bounds {
-        verts: rng.pick(&[4, 9, 20]),
-        elements: rng.pick(&[1, 4, 9]),
-        ..Bounds::default()
-    };
-    let mut mesh = random::mesh(rng, entry.kind(), &bounds);
-    place(rng, &mut mesh);
+    let mesh = mesh(rng, entry.kind());
     let (lending, lent) = lending(rng, entry, &entry.made(&mesh));
-    let cells = mesh.sizes();
-    let mut given = Given::new(mesh, &cells);
-    given.fill = rng.draw();
-    last_steps(rng, &mut given);
-    if rng.once_in(2) {
-        // Cells to spare, and too few words for a row.
-        for (words, row) in given.words.iter_mut().zip(row_words(entry.kind())) {
-            *words += rng.below(3 * row);
-        }
-    }
+    let mut given = given(rng, mesh);
     let damages = damages(rng, 4, &DAMAGES, |rng, which| hurt(rng, &mut given, which));
     Drawn {
         case: Call { entry, given, lent },
         lending,
         damages,
     }
+}
+
+/// An accepted mesh of a kind, small, with its coordinates of any size.
+pub fn mesh(rng: &mut Rng, kind: Kind) -> Mesh {
+    let bounds = Bounds {
+        verts: rng.pick(&[4, 9, 20]),
+        elements: rng.pick(&[1, 4, 9]),
+        ..Bounds::default()
+    };
+    let mut mesh = random::mesh(rng, kind, &bounds);
+    place(rng, &mut mesh);
+    mesh
+}
+
+/// A mesh on its bench, with any words where they count for nothing.
+pub fn given(rng: &mut Rng, mesh: Mesh) -> Given {
+    let (kind, cells) = (mesh.kind, mesh.sizes());
+    let mut given = Given::new(mesh, &cells);
+    given.fill = rng.draw();
+    last_steps(rng, &mut given);
+    if rng.once_in(2) {
+        // Cells to spare, and too few words for a row.
+        for (words, row) in given.words.iter_mut().zip(row_words(kind)) {
+            *words += rng.below(3 * row);
+        }
+    }
+    given
 }
 
 /// Leaves coordinates as they are; or makes them so small that dots lie about the least numbers, some to be rounded to 0; or as large
@@ -288,15 +300,20 @@ fn count(found: &mut Compared, drawn: &Drawn<Call>, number: u8) {
     }
     let Call { entry, given, .. } = &drawn.case;
     let mesh = given.bench().0.mesh(entry.kind(), &given.counts);
+    count_made(found, *entry, &mesh);
+}
+
+/// What an entry makes of an accepted mesh.
+pub fn count_made(found: &mut Compared, entry: Entry, mesh: &Mesh) {
     match entry {
-        Entry::Triangulation => count_pieces(found, &mesh),
-        Entry::Normals3 => count_dots(found, &sums_3d(&mesh), &mesh.areas, 44),
-        Entry::Normals4 => count_dots(found, &sums_4d(&mesh), &mesh.volumes, 66),
+        Entry::Triangulation => count_pieces(found, mesh),
+        Entry::Normals3 => count_dots(found, &sums_3d(mesh), &mesh.areas, 44),
+        Entry::Normals4 => count_dots(found, &sums_4d(mesh), &mesh.volumes, 66),
     }
 }
 
 /// Some corner stands in it twice.
-fn repeats(element: &Element) -> bool {
+pub fn repeats(element: &Element) -> bool {
     let corners = &element.corners;
     (1..corners.len()).any(|i| corners[..i].contains(&corners[i]))
 }
@@ -318,6 +335,11 @@ fn count_pieces(found: &mut Compared, mesh: &Mesh) {
     }
 }
 
+/// A sum times itself, from the left. Where it rounds to 0 the normal is Flat.
+pub fn dot(sum: &[f32]) -> f32 {
+    sum[1..].iter().fold(sum[0] * sum[0], |d, c| d + c * c)
+}
+
 /// How large the dot of each vertex's sum is. At the largest coordinates one element's is 2 to the power of `largest` or more.
 fn count_dots<const N: usize>(
     found: &mut Compared,
@@ -326,7 +348,7 @@ fn count_dots<const N: usize>(
     largest: i32,
 ) {
     for (v, sum) in sums.iter().enumerate() {
-        let dot = sum[1..].iter().fold(sum[0] * sum[0], |d, c| d + c * c);
+        let dot = dot(sum);
         let met = || elements.iter().filter(|e| e.corners.contains(&(v as u32)));
         let size = match dot {
             _ if met().next().is_none() => "Flat, no element",

@@ -8,6 +8,7 @@
 //! to the program of that name. `stored files` writes the files that the program `replay` reads, and `stored answers` what it must print.
 //! `bench` measures speed. `ledger SEED COUNT` refines so many meshes of each kind, and holds the ledgers of what is left against document
 //! 01's section 5. `chain SEED COUNT` refines so many meshes of cubes, cuts what is left and refines that, and holds document 02's U8 against it.
+//! `turning SEED COUNT` shades so many meshes in 3D and in 4D, and the same with every parity changed, and holds document 02's U5 against both.
 #![forbid(unsafe_code)]
 
 mod bench;
@@ -36,6 +37,7 @@ mod sheet;
 mod shrink;
 mod spoil;
 mod stored;
+mod turning;
 #[cfg(test)]
 mod worked;
 mod written;
@@ -44,6 +46,7 @@ use derived::{Entry, ENTRIES};
 use reference::mesh::Kind;
 use std::{
     env,
+    fmt::Debug,
     io::{self, Write},
     process::ExitCode,
 };
@@ -116,10 +119,11 @@ fn main() -> ExitCode {
             true
         }),
         ["bench", "one", what, size, side] => counted(what, size, side),
-        ["ledger"] => both_kinds("1", "3000", ledger::compare),
-        ["ledger", seed, cases] => both_kinds(seed, cases, ledger::compare),
+        ["ledger"] => both(KINDS, "1", "3000", ledger::compare),
+        ["ledger", seed, cases] => both(KINDS, seed, cases, ledger::compare),
         ["chain", seed, cases] => chained(seed, cases),
-        ["geometry", seed, cases] => both_kinds(seed, cases, geometries::compare),
+        ["turning", seed, cases] => both(NORMALS, seed, cases, turning::library),
+        ["geometry", seed, cases] => both(KINDS, seed, cases, geometries::compare),
         [what, seed, cases] => compared(what, seed, cases),
         _ => None,
     };
@@ -127,7 +131,7 @@ fn main() -> ExitCode {
         Some(true) => ExitCode::SUCCESS,
         Some(false) => ExitCode::from(1),
         None => {
-            eprintln!("usage: cargo run --release -- all | spread | WHAT SEED COUNT | stored files | stored answers | bench [ENTRY | lines] | bench one WHAT SIZE SIDE | ledger [SEED COUNT] | chain SEED COUNT | geometry SEED COUNT");
+            eprintln!("usage: cargo run --release -- all | spread | WHAT SEED COUNT | stored files | stored answers | bench [ENTRY | lines] | bench one WHAT SIZE SIDE | ledger [SEED COUNT] | chain SEED COUNT | turning SEED COUNT | geometry SEED COUNT");
             eprintln!("KIND is cubes or simplices, ENTRY triangulation, normals3 or normals4, WHAT either, file or sheet, SIDE library, original or none");
             ExitCode::from(2)
         }
@@ -160,16 +164,17 @@ fn compared(what: &str, seed: &str, cases: &str) -> Option<bool> {
     Some(found.apart.is_none())
 }
 
-/// Prints what random meshes of both kinds showed: whether all are as they should be.
-fn both_kinds(
+/// Prints what random meshes showed, of both kinds or through both normals: whether all are as they should be.
+fn both<T: Copy + Debug>(
+    sides: [T; 2],
     seed: &str,
     cases: &str,
-    compare: fn(Kind, u64, u64) -> refinement::Compared,
+    compare: fn(T, u64, u64) -> refinement::Compared,
 ) -> Option<bool> {
     let (seed, cases) = (seed.parse().ok()?, cases.parse().ok()?);
-    let agree = KINDS.map(|kind| {
-        let found = compare(kind, seed, cases);
-        println!("{kind:?}:");
+    let agree = sides.map(|side| {
+        let found = compare(side, seed, cases);
+        println!("{side:?}:");
         found.print();
         found.apart.is_none()
     });
@@ -206,3 +211,4 @@ fn entry_named(name: &str) -> Option<Entry> {
 }
 
 const KINDS: [Kind; 2] = [Kind::Simplices, Kind::Cubes];
+const NORMALS: [Entry; 2] = [Entry::Normals3, Entry::Normals4];

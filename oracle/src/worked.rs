@@ -1,5 +1,5 @@
-//! Worked meshes: worked/*.txt have cases whose answers follow from document 01, and for tag and k from document 02's U3, with the sentence beside
-//! each, worked out by hand or by a separate calculation. Both the library and the reference are held to them.
+//! Worked meshes: worked/*.txt have cases whose answers follow from document 01, and from document 02 where it changes tag and k (U3) or has every parity
+//! changed (U5), with the sentence beside each, worked out by hand or by a separate calculation. Both the library and the reference are held to them.
 use crate::{
     case::{row_words, words_for, Given},
     derived::{Answered, Call, Entry},
@@ -376,5 +376,5 @@ fn refinements_are_those_worked_out() {
 
 #[test]
 fn triangulations_and_normals_are_those_worked_out() {
-    replayed("shadings.txt", 173, derived);
+    replayed("shadings.txt", 181, derived);
 }

@@ -228,13 +228,16 @@ impl From<CubicalGeometry> for SimplicialGeometry {
 impl SimplicialGeometry {
     /// Each vertex's normal to the triangles that it is a corner of; +0 in every place where it has none.
     ///
+    /// An odd triangle counts with the other sign. With every parity changed a vertex without a normal stays so, each component whose sum isn't
+    /// zero changes its sign bit alone, and every other is +0 both times.
+    ///
     /// # Errors
     /// 6, 7, 8, 9 or 10 for what is wrong with the geometry.
     pub fn compute_normals_3d(&self) -> Result<IdxVec<Vert, Vec3>, Refusal> {
         Ok(self.normals(raw::compute_normals_3d)?.map(Vec3::from))
     }
 
-    /// The same in 4D, to the tetrahedra.
+    /// The same in 4D, to the tetrahedra, with the same turn where every parity is changed.
     ///
     /// # Errors
     /// 6, 7, 8, 9 or 10 for what is wrong with the geometry.

@@ -1,6 +1,6 @@
 -- No refusal is numbered 0, so that an exported number says the whole verdict; and an entry's promise over sizes and an answer that are words.
 -- Assumes nothing.
-use mathlib.Core.Path.{_≡_, refl, sym, _∙_, ap, subst}
+use mathlib.Core.Path.{_≡_, refl, sym, subst}
 use mathlib.Core.Bool.{Bool, true, false, cond}
 use mathlib.Core.List.{List, [], _∷_}
 use Prim.Native.Nat.{ℕ, zero, suc}
@@ -14,6 +14,7 @@ use Rattle.geom.specs.Book.{Kind}
 use Rattle.geom.specs.Memory.{Bench}
 use Rattle.geom.specs.Mesh.{Mesh}
 use Rattle.geom.specs.Normals.{Shaded, shadedBy, shadingVerdict, shading3, shading4}
+use Rattle.geom.specs.Turning.{Dimension, three, four, Shades}
 use Rattle.geom.specs.Refinement.{Lent, State, Run, passOver, fits, runFrom, run, toldBy}
 use Rattle.geom.specs.Refusals.{Desk, handedIn, refinementVerdict, subdividedBy, subdivided, toldAfter}
 use Rattle.geom.specs.Triangulation.{Cuts, Triangulated, triangulationVerdict, triangulatedBy, triangulation}
@@ -104,20 +105,18 @@ shaded-numbered accepted words out n = n
 shaded-numbered (refused k) words out n = n
 
 module _ (e : Ended) (after : List Float) (s : Sizes) (b : Bench) (out : List Float) where
-  pub shades3-numbered : _≡_ {A = Shaded} (record { verdict = verdictOf e; out = after }) (shading3 s b out) → Numbered (verdictOf e)
+  pub shades3-numbered : Shades three s b out (record { verdict = verdictOf e; out = after }) → Numbered (verdictOf e)
   unfolding shading3
   shades3-numbered q =
-      subst (λ (t : Shaded). Numbered (t .verdict)) (sym q) (shaded-numbered (shadingVerdict 3 s b out) _ out (shade-numbered 3 s b out))
+      subst (λ (t : Shaded). Numbered (t .verdict)) (sym (q .answer)) (shaded-numbered (shadingVerdict 3 s b out) _ out (shade-numbered 3 s b out))
 
-  pub shades4-numbered : _≡_ {A = Shaded} (record { verdict = verdictOf e; out = after }) (shading4 s b out) → Numbered (verdictOf e)
+  pub shades4-numbered : Shades four s b out (record { verdict = verdictOf e; out = after }) → Numbered (verdictOf e)
   unfolding shading4
   shades4-numbered q =
-      subst (λ (t : Shaded). Numbered (t .verdict)) (sym q) (shaded-numbered (shadingVerdict 4 s b out) _ out (shade-numbered 4 s b out))
+      subst (λ (t : Shaded). Numbered (t .verdict)) (sym (q .answer)) (shaded-numbered (shadingVerdict 4 s b out) _ out (shade-numbered 4 s b out))
 
-pub exported-shading : (shading : Sizes → Bench → List Float → Shaded) (b : Bench) (before after : List Float) (s handed : Sizes) (x y : Verdict)
-    → handed ≡ s
-    → y ≡ x
-    → _≡_ {A = Shaded} (record { verdict = x; out = after }) (shading handed b before)
-    → _≡_ {A = Shaded} (record { verdict = y; out = after }) (shading s b before)
-exported-shading shading b before after s handed x y p q h =
-    ap (λ (v : Verdict). record { verdict = v; out = after }) q ∙ h ∙ ap (λ (t : Sizes). shading t b before) p
+pub exported-shading : (d : Dimension) (b : Bench) (before after : List Float) (s handed : Sizes) (x y : Verdict) → handed ≡ s → y ≡ x
+    → Shades d handed b before (record { verdict = x; out = after }) → Shades d s b before (record { verdict = y; out = after })
+exported-shading d b before after s handed x y p q h =
+    subst (λ (z : Sizes). Shades d z b before (record { verdict = y; out = after })) p
+    (subst (λ (v : Verdict). Shades d handed b before (record { verdict = v; out = after })) (sym q) h)

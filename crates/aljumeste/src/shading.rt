@@ -1,7 +1,6 @@
 // Document 01, section 7: the normals, as other languages link them. Any words in any slices of any lengths, any sizes: every call is
 // answered.
-ghost use mathlib.Core.Path.{_≡_};
-ghost use Rattle.geom.specs.Normals.{Shaded, shading3, shading4};
+ghost use Rattle.geom.specs.Turning.{three, four, Shades};
 ghost use Rattle.judge.specs.Judged.{bench};
 ghost use Rattle.told.specs.Told.{sizesFrom, verdictBy};
 use normals3::compute_normals_3d;
@@ -24,7 +23,7 @@ pub extern "C" fn aljumeste_compute_normals_3d(
     sizes: &[usize; 7],
     normals: &mut [f32],
 ) -> u8
-    ensures { λ r. ⌜ _≡_ {A = Shaded} (record { verdict = verdictBy r; out = now (normals .exit) }) (shading3 (sizesFrom 0 (now (sizes .entry))) (bench (now (positions .entry)) (now (marks .entry)) (now (points .entry)) (now (lines .entry)) (now (areas .entry)) (now (volumes .entry)) (now (curves .entry)) (now (steps .entry))) (now (normals .entry))) ⌝ }
+    ensures { λ r. ⌜ Shades three (sizesFrom 0 (now (sizes .entry))) (bench (now (positions .entry)) (now (marks .entry)) (now (points .entry)) (now (lines .entry)) (now (areas .entry)) (now (volumes .entry)) (now (curves .entry)) (now (steps .entry))) (now (normals .entry)) (record { verdict = verdictBy r; out = now (normals .exit) }) ⌝ }
 {
     let handed = stated(sizes);
     let ended = compute_normals_3d(
@@ -56,7 +55,7 @@ pub extern "C" fn aljumeste_compute_normals_4d(
     sizes: &[usize; 7],
     normals: &mut [f32],
 ) -> u8
-    ensures { λ r. ⌜ _≡_ {A = Shaded} (record { verdict = verdictBy r; out = now (normals .exit) }) (shading4 (sizesFrom 0 (now (sizes .entry))) (bench (now (positions .entry)) (now (marks .entry)) (now (points .entry)) (now (lines .entry)) (now (areas .entry)) (now (volumes .entry)) (now (curves .entry)) (now (steps .entry))) (now (normals .entry))) ⌝ }
+    ensures { λ r. ⌜ Shades four (sizesFrom 0 (now (sizes .entry))) (bench (now (positions .entry)) (now (marks .entry)) (now (points .entry)) (now (lines .entry)) (now (areas .entry)) (now (volumes .entry)) (now (curves .entry)) (now (steps .entry))) (now (normals .entry)) (record { verdict = verdictBy r; out = now (normals .exit) }) ⌝ }
 {
     let handed = stated(sizes);
     let ended = compute_normals_4d(

@@ -28,7 +28,7 @@ use Rattle.geom.proofs.Lists.{all-map, all-append, all-under-map, true-
 use Rattle.geom.proofs.Standing.{every-true}
 use Rattle.geom.proofs.Well.{below-more, pass-is}
 use Rattle.geom.proofs.Left.{run-left}
-use Rattle.geom.proofs.Accepted.{none-due, holds, every-holds, below, numbers, accepted-well, vertex-count}
+use Rattle.geom.proofs.Accepted.{none-due, holds, every-holds, below, numbers, judged-well, vertex-count}
 use Rattle.geom.proofs.Refined.{original, runOf}
 use Rattle.geom.proofs.Steady.{Placed, Steady, placed-after}
 use Rattle.geom.proofs.Pinned.{good-after, counted, never-fewer}
@@ -65,7 +65,7 @@ unfolding goodNumber
 steps-good n rs a = every-true (λ (s : StepRow). goodNumber n (s .vertex)) rs (all-map (λ r l. true-is _ (lt→ltb (r .vertex) n l)) rs a)
 
 -- a curve with vertices
-abbrev Some : Curve → Type 0
+abbrev pub Some : Curve → Type 0
 Some c = 0 < length (c .vertices)
 
 curves-good : (cs : List CurveRow) (rs : List StepRow) → All Some (curvesOf cs rs) → every goodCurve cs ≡ true
@@ -91,11 +91,11 @@ good-curves (c ∷ cs) rs l t =
 
 -- ---- what is judged of a mesh, wherever it stands
 
-record InOrder {F : Form} (kind : Kind) (m : MeshIn F) : Type 0 where
-  positions : All (Placed F) (m .vertices)
-  points : Below (length (m .vertices)) (m .points)
-  well : Well kind (length (m .vertices)) (m .lists)
-  curves : All Some (m .lists .curves)
+pub record InOrder {F : Form} (kind : Kind) (m : MeshIn F) : Type 0 where
+  pub positions : All (Placed F) (m .vertices)
+  pub points : Below (length (m .vertices)) (m .points)
+  pub well : Well kind (length (m .vertices)) (m .lists)
+  pub curves : All Some (m .lists .curves)
 
 positions-on : {F : Form} (r : RowsIn F) → All (Placed F) (meshOf r .vertices) → positionsHold r ≡ true
 unfolding meshOf positionsHold
@@ -127,7 +127,7 @@ lengths-on kind s b e =
     ∙ sym (length-firstOf (stepRow (b .curveVertices)) (s .«curve_vertices»))
 
 -- a mesh in order and within the limits is accepted on every bench on which it stands
-accepted-on :
+pub accepted-on :
     {F : Form} (kind : Kind) (m : MeshIn F) (b : BenchIn F) → InOrder kind m → within (sizesOf m) LIMITS ≡ true → StandsFor kind b m
     → firstDue (handedIn true true kind (sizesOf m) b) ≡ accepted
 unfolding StandsFor handedIn firstDue sizesOf
@@ -216,25 +216,21 @@ run-limits {F} kind time lent base (suc depth) n s e = go (run-limits kind time 
     go onward true f = onward (fits-limits lent next f)
     go onward false f = e
 
--- ---- what acceptance gives, and the mesh that is left
+-- ---- what acceptance gives
 
-module _ {F : Form} (kind : Kind) (s : Sizes) (d : DeskIn F) (time : ℕ) (yes-it-is : refinementVerdict kind s d time ≡ accepted) where
-  abbrev b : BenchIn F
-  b = d .first
-
+module _ {F : Form} (nine five : Bool) (kind : Kind) (s : Sizes) (b : BenchIn F) (yes-it-is : firstDue (handedIn nine five kind s b) ≡ accepted) where
   abbrev r : RowsIn F
   r = rowsOf kind s b
 
   abbrev mesh : MeshIn F
-  mesh = original kind s d
+  mesh = meshOf r
 
-  not-due : All (λ (x : Due). x .due ≡ false) (handedIn (benchesHold kind d) (goodParity time) kind s b)
-  unfolding refinementVerdict
-  not-due = none-due (handedIn (benchesHold kind d) (goodParity time) kind s b) yes-it-is
+  not-due : All (λ (x : Due). x .due ≡ false) (handedIn nine five kind s b)
+  not-due = none-due (handedIn nine five kind s b) yes-it-is
 
   counts-hold : countsHold kind s b ≡ true
   unfolding handedIn
-  counts-hold = true-is _ (and-l (countsHold kind s b) (benchesHold kind d) (holds (countsHold kind s b && benchesHold kind d) (not-due .0)))
+  counts-hold = true-is _ (and-l (countsHold kind s b) nine (holds (countsHold kind s b && nine) (not-due .0)))
 
   positions-good : All (Placed F) (mesh .vertices)
   unfolding handedIn positionsHold meshOf
@@ -250,21 +246,33 @@ module _ {F : Form} (kind : Kind) (s : Sizes) (d : DeskIn F) (time : ℕ) (yes-i
   unfolding handedIn
   curves-hold = holds (every goodCurve (r .curves)) (not-due .1 .1 .1 .1 .0)
 
-  limits-hold : within (sizesOf mesh) LIMITS ≡ true
+  pub limits-hold : within (sizesOf mesh) LIMITS ≡ true
   unfolding handedIn countsHold rowsOf
   limits-hold =
       let lengths = same-number (curveLengths (r .curves)) (s .«curve_vertices») (and-true-right (within s (cells kind b)) _ counts-hold) in
       ap (λ (x : Sizes). within x LIMITS) (sizes-stated kind s b lengths) ∙ true-is _ (holds (within s LIMITS) (not-due .1 .1 .1 .1 .1 .0))
 
-  accepted-in-order : InOrder kind mesh
+  pub accepted-in-order : InOrder kind mesh
   unfolding meshOf
   accepted-in-order =
+      let e = sym (vertex-count kind s b) in
       record {
         positions = positions-good;
-        points = subst (λ (n : ℕ). Below n (r .points)) (sym (vertex-count kind s b)) points-low;
-        well = accepted-well kind s d time yes-it-is;
+        points = subst (λ (n : ℕ). Below n (r .points)) e points-low;
+        well = subst (λ (n : ℕ). Well kind n (mesh .lists)) e (judged-well nine five kind s b yes-it-is);
         curves = good-curves (r .curves) (r .curveVertices) (omega (arith, lengths-on kind s b counts-hold)) curves-hold;
       }
+
+-- ---- the mesh that is left
+
+module _ {F : Form} (kind : Kind) (s : Sizes) (d : DeskIn F) (time : ℕ) (yes-it-is : refinementVerdict kind s d time ≡ accepted) where
+  started : InOrder kind (original kind s d)
+  unfolding refinementVerdict
+  started = accepted-in-order (benchesHold kind d) (goodParity time) kind s (d .first) yes-it-is
+
+  started-limits : within (sizesOf (original kind s d)) LIMITS ≡ true
+  unfolding refinementVerdict
+  started-limits = limits-hold (benchesHold kind d) (goodParity time) kind s (d .first) yes-it-is
 
   module _ (steady : Steady F) (depth : ℕ) where
     abbrev left : MeshIn F
@@ -272,12 +280,12 @@ module _ {F : Form} (kind : Kind) (s : Sizes) (d : DeskIn F) (time : ℕ) (yes-i
 
     left-in-order : InOrder kind left
     left-in-order =
-        subst (λ (x : StateIn F). InOrder kind (x .mesh)) (sym (run-left kind (eqb time 1) (lentBy kind d) depth mesh))
-        (order-after steady kind (eqb time 1) mesh accepted-in-order (runOf kind s d depth time .passes))
+        subst (λ (x : StateIn F). InOrder kind (x .mesh)) (sym (run-left kind (eqb time 1) (lentBy kind d) depth (original kind s d)))
+        (order-after steady kind (eqb time 1) (original kind s d) started (runOf kind s d depth time .passes))
 
     left-limits : within (sizesOf left) LIMITS ≡ true
     unfolding run
-    left-limits = run-limits kind (eqb time 1) (lentBy kind d) (length (mesh .vertices)) depth 0 (begun mesh) limits-hold
+    left-limits = run-limits kind (eqb time 1) (lentBy kind d) (length (original kind s d .vertices)) depth 0 (begun (original kind s d)) started-limits
 
     pub left-placed : All (Placed F) (left .vertices)
     left-placed = left-in-order .positions

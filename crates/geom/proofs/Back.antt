@@ -184,7 +184,7 @@ stepRows [] ps = []
 stepRows (v ∷ vs) [] = record { vertex = v; step = 0 } ∷ stepRows vs []
 stepRows (v ∷ vs) (p ∷ ps) = record { vertex = v; step = parityWord p } ∷ stepRows vs ps
 
-abbrev rowWords : StepRow → List ℕ
+abbrev pub rowWords : StepRow → List ℕ
 rowWords r = r .vertex ∷ r .step ∷ []
 
 abbrev pub ownSteps : Curve → List StepRow
@@ -225,7 +225,7 @@ steps-words [] ps = refl
 steps-words (v ∷ vs) [] = ap (λ (r : List ℕ). v ∷ 0 ∷ r) (steps-words vs [])
 steps-words (v ∷ vs) (p ∷ ps) = ap (λ (r : List ℕ). v ∷ parityWord p ∷ r) (steps-words vs ps)
 
-vertex-words : (cs : List Curve) → vertexWords cs ≡ flatMap rowWords (flatMap ownSteps cs)
+pub vertex-words : (cs : List Curve) → vertexWords cs ≡ flatMap rowWords (flatMap ownSteps cs)
 unfolding vertexWords flatMap
 vertex-words [] = refl
 vertex-words (c ∷ cs) =
@@ -237,7 +237,7 @@ length-stepRows [] ps = refl
 length-stepRows (v ∷ vs) [] = ap suc (length-stepRows vs [])
 length-stepRows (v ∷ vs) (p ∷ ps) = ap suc (length-stepRows vs ps)
 
-count-steps : (cs : List Curve) → length (flatMap ownSteps cs) ≡ curveVertices cs
+pub count-steps : (cs : List Curve) → length (flatMap ownSteps cs) ≡ curveVertices cs
 unfolding flatMap curveVertices
 count-steps [] = refl
 count-steps (c ∷ cs) =

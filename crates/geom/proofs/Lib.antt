@@ -46,3 +46,8 @@ pub mod Again
 pub mod Kept
 -- and that binary32 is such a form.
 pub mod Stays
+-- The normals when every parity is changed, from the sign by parity
+pub mod Signs
+pub mod Flipped
+pub mod Summing
+pub mod Turning

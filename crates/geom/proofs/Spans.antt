@@ -44,7 +44,7 @@ unfolding vertexBytes wordBytes
 length-vertex v = refl
 
 -- entries of one width
-pub length-flat : {A : Type 0} {P : A → Type 0} (bytes : A → List ℕ) (width : ℕ) → ((x : A) → P x → length (bytes x) ≡ width) → (xs : List A) → All P xs → length (flatMap bytes xs) ≡ width * length xs
+pub length-flat : {A B : Type 0} {P : A → Type 0} (bytes : A → List B) (width : ℕ) → ((x : A) → P x → length (bytes x) ≡ width) → (xs : List A) → All P xs → length (flatMap bytes xs) ≡ width * length xs
 unfolding flatMap
 length-flat bytes width w [] a = omega arith
 length-flat bytes width w (x ∷ xs) a =

@@ -26,13 +26,13 @@ use Rattle.geom.proofs.Steady.{GoodAt, Gives, Steady}
 
 -- ---- four axes
 
-record All4 (P : Float → Type 0) (v : Vec4) : Type 0 where
-  on-x : P (v .x)
-  on-y : P (v .y)
-  on-z : P (v .z)
-  on-w : P (v .w)
+pub record All4 (P : Float → Type 0) (v : Vec4) : Type 0 where
+  pub on-x : P (v .x)
+  pub on-y : P (v .y)
+  pub on-z : P (v .z)
+  pub on-w : P (v .w)
 
-abbrev Good : Vec4 → Type 0
+abbrev pub Good : Vec4 → Type 0
 Good = All4 (Small 1024)
 
 sum4 : (A B C : ℕ) (p q : Vec4) → Cap (A + B) C → All4 (Small A) p → All4 (Small B) q → All4 (Small C) (Points4.sum p q)
@@ -219,7 +219,7 @@ good-of-small (fin false m e) h =
 coordinate-good : (x : Float) → Small 1024 x → goodCoordinate x ≡ true
 coordinate-good x h = true-is (goodCoordinate x) (good-of-small x h)
 
-position-good : (p : Vec4) → GoodAt binary32 p → Good p
+pub position-good : (p : Vec4) → GoodAt binary32 p → Good p
 unfolding goodPositionIn
 position-good p e =
     let a = goodCoordinate (p .x) in

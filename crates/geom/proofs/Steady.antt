@@ -92,7 +92,7 @@ module _ {F : Form} (steady : Steady F) where
   abbrev Gathers : GatheredIn F → Type 0
   Gathers g = steady .Added (g .count) (g .sum)
 
-  placed-at : (vs : List (F .Vertex)) (i : ℕ) → All (Placed F) vs → GoodAt F (positionIn F vs i)
+  pub placed-at : (vs : List (F .Vertex)) (i : ℕ) → All (Placed F) vs → GoodAt F (positionIn F vs i)
   placed-at [] i a = ap (goodPositionIn F) (F .parts-of (F .origin) 0 0 0 .0) ∙ steady .origin
   placed-at (v ∷ vs) zero a = a .0
   placed-at (v ∷ vs) (suc i) a = placed-at vs i (a .1)

@@ -23,10 +23,11 @@ pub mod Memory
 pub mod Refusals
 -- what a refinement keeps
 pub mod Soundness
--- what else is done with a mesh, and (document 02, U8) what triangulation does to a ledger
+-- what else is done with a mesh, and (document 02) what triangulation does to a ledger (U8) and the other parities to normals (U5)
 pub mod Triangulation
 pub mod Cutting
 pub mod Normals
+pub mod Turning
 -- the file, the listing, and the program
 pub mod File
 pub mod Listing

@@ -1,4 +1,5 @@
--- Document 01, section 7: the normals of a simplex mesh, in three dimensions from its triangles and in four from its tetrahedra; and the two entries.
+-- Document 01, section 7, and document 02, U5: the normals of a simplex mesh, in three dimensions from its triangles and in four from its tetrahedra; and the
+-- two entries.
 -- Said per vertex: the sum that vertex v gathers in mesh order, from +0, and then normalised (section 1, in `numbers`).
 -- Says nothing of a normal's length.
 -- Assumes nothing.
@@ -12,12 +13,11 @@ use Rattle.numbers.specs.declared.vec3.Vec3.{Vec3}
 use Rattle.numbers.specs.declared.vec4.Vec4.{Vec4}
 use Rattle.numbers.specs.declared.normal.Normal3.{Normal3}
 use Rattle.numbers.specs.declared.normal.Normal4.{Normal4}
-use Rattle.numbers.specs.Binary32.{zero, one}
+use Rattle.numbers.specs.Binary32.{_⊖_, _⊗_, zero, one, count}
 use Rattle.numbers.specs.Points3 as Points3
 use Rattle.numbers.specs.Points4 as Points4
 use Rattle.numbers.specs.Normal.{normalised3, normalised4, cells3, cells4}
 use Rattle.geom.specs.declared.parity.Parity.{Parity}
-use Rattle.geom.specs.declared.parity.Parity.the-variants.{Even, Odd}
 use Rattle.geom.specs.declared.vertex.Vertex.{Vertex}
 use Rattle.geom.specs.declared.answer.Sizes.{Sizes}
 use Rattle.geom.specs.Book.{simplices}
@@ -25,13 +25,12 @@ use Rattle.geom.specs.Elements.{Element, pointAt}
 use Rattle.geom.specs.Vertices.{positionAt}
 use Rattle.geom.specs.Answers.{Verdict, accepted, refused, due, firstDue}
 use Rattle.geom.specs.Mesh.{Mesh}
-use Rattle.geom.specs.Memory.{Bench, rowsOf, meshOf, firstOf, over}
+use Rattle.geom.specs.Memory.{Bench, rowsOf, parityWord, meshOf, firstOf, over}
 use Rattle.geom.specs.Refusals.{handedIn}
 
--- the sign by parity
+-- U5: the sign by parity, 1 minus twice the parity byte
 unfoldable pub sign : Parity → Float
-sign Even = one
-sign Odd = neg one
+sign p = one ⊖ count 2 ⊗ count (parityWord p)
 
 -- the position of corner i
 abbrev pub corner : List Vertex → Element → ℕ → Vec4

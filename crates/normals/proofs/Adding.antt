@@ -17,9 +17,9 @@ use Rattle.geom.specs.declared.vertex.Vertex.{Vertex}
 use Rattle.geom.specs.Elements.{Element}
 use Rattle.geom.specs.Memory.{firstOf}
 use Rattle.geom.specs.Normals.{toCorners}
-use Rattle.vertices.specs.Cells.{verticesOf, elementsOf, Elements}
+use Rattle.vertices.specs.Cells.{verticesOf, elementsOf}
 use Rattle.vertices.proofs.Gathering.{part-more, elements-more}
-use Rattle.normals.specs.Cells.{elementAt, Cleared, Holds}
+use Rattle.normals.specs.Cells.{elementAt, Signed, Cleared, Holds}
 
 -- ---- the first words cleared
 
@@ -108,12 +108,16 @@ three-words words s h =
     ∙ ap (λ (l : List ℕ). l ++ getD words (s + 1) 0 ∷ []) (part-more words s 0 (omega arith) ∙ ap (λ (k : ℕ). getD words k 0 ∷ []) z))
 
 -- the elements up to one of them
-pub elements-first : (words : List ℕ) (corners n count i : ℕ) → Elements words corners n count → i < n → Elements words corners (i + 1) count
+pub elements-first : (words : List ℕ) (corners n count i : ℕ) → Signed words corners n count → i < n → Signed words corners (i + 1) count
 elements-first words corners n count i e h =
     let k : i + 1 ≤ n = omega arith in
     record {
-      room = omega (arith, e .room, mul-le-mul-left (suc corners) k);
-      below = λ j l. e .below j (omega arith);
+      elements =
+          record {
+            room = omega (arith, e .elements .room, mul-le-mul-left (suc corners) k);
+            below = λ j l. e .elements .below j (omega arith);
+          };
+      parity = λ j l. e .parity j (omega arith);
     }
 
 -- a definition that goes through the elements from the front, with its step at the back

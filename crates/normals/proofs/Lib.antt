@@ -4,3 +4,5 @@ pub mod Adding
 pub mod Settling
 -- the entries: what an acceptance gives, and what each answer means
 pub mod Door
+-- the parity's word as a signed number
+pub mod Cast

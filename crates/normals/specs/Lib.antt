@@ -1,2 +1,2 @@
--- the lent normals as cells
+-- the elements that normals come from, and the lent normals as cells
 pub mod Cells

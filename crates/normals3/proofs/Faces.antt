@@ -14,8 +14,6 @@ use Rattle.numbers.specs.Binary32 as Binary32
 use Rattle.numbers.specs.Points3 as Points3
 use Rattle.numbers.specs.Normal.{normalised3, cells3}
 use Rattle.numbers.specs.declared.vec3.Vec3.{Vec3}
-use Rattle.numbers.specs.declared.normal.Normal3.{Normal3}
-use Rattle.numbers.specs.declared.normal.Normal3.the-variants.{Direction, Flat}
 use Rattle.geom.specs.declared.answer.Sizes.{Sizes}
 use Rattle.geom.specs.declared.parity.Parity.{Parity}
 use Rattle.geom.specs.declared.vertex.Vertex.{Vertex}
@@ -73,12 +71,6 @@ vectors =
         let z = other-row l (vectorWords p) 3 v u 2 Binary32.zero refl (omega arith) ne in
         λ i. record { x = x i; y = y i; z = z i }
 
--- a normal is as wide as its cell
-pub wide3 : (n : Normal3) → length (cells3 n) ≡ 3
-unfolding cells3
-wide3 (Direction x y z) = refl
-wide3 Flat = refl
-
 -- ---- three different corners
 
 module _ (a b c : ℕ) where
@@ -124,10 +116,9 @@ module _ (words : List ℕ) (i count : ℕ) where
     three-are : a ∷ b ∷ c ∷ [] ≡ take 3 (drop (4 * i) words)
     three-are = (λ j. ea j ∷ eb j ∷ ec j ∷ []) ∙ sym (three-words words (4 * i) (omega (arith, es .room)))
 
-    triangle-is : (p : Parity) → p ≡ parityOf (getD words (4 * i + 3) 0) → _≡_ {A = Element} (record { corners = a ∷ b ∷ c ∷ []; parity = p }) (elementAt 3 words i)
+    triangle-is : _≡_ {A = Element} (record { corners = a ∷ b ∷ c ∷ []; parity = parityOf (getD words (4 * i + 3) 0) }) (elementAt 3 words i)
     unfolding elementRow elementOf
-    triangle-is p ep =
-        λ j. record { corners = three-are j; parity = ep j }
+    triangle-is = λ j. record { corners = three-are j; parity = parityOf (getD words (4 * i + 3) 0) }
 
     -- two corners are the same: nothing is added
     pub triangle-off : (r : Bool) → r ≡ threeCorners (a ∷ b ∷ c ∷ []) → not r ≡ true → (positions : List Float) (marks : List ℕ) (s : List Float)
@@ -143,20 +134,20 @@ module _ (words : List ℕ) (i count : ℕ) where
         }
 
     -- else its normal, to each corner
-    pub triangle-on : (r : Bool) → r ≡ threeCorners (a ∷ b ∷ c ∷ []) → not r ≡ false → (p : Parity) → p ≡ parityOf (getD words (4 * i + 3) 0)
-        → (positions : List Float) (n : Vec3) → ((marks : List ℕ) → n ≡ areaNormal (verticesOf positions marks count) (record { corners = a ∷ b ∷ c ∷ []; parity = p }))
+    pub triangle-on : (r : Bool) → r ≡ threeCorners (a ∷ b ∷ c ∷ []) → not r ≡ false → (positions : List Float) (n : Vec3)
+        → ((marks : List ℕ) → n ≡ areaNormal (verticesOf positions marks count) (record { corners = a ∷ b ∷ c ∷ []; parity = parityOf (getD words (4 * i + 3) 0) }))
         → (s s′ : List Float) → Holds vectorRow 3 count s (λ (u : ℕ). toCorners Points3.sum n u (a ∷ b ∷ c ∷ []) (vectorRow s u)) s′
         → (marks : List ℕ) → Holds vectorRow 3 count s (λ (u : ℕ). areaStep (verticesOf positions marks count) (elementAt 3 words i) u (vectorRow s u)) s′
     unfolding areaStep
-    triangle-on r t e p ep positions n en s s′ g marks =
+    triangle-on r t e positions n en s s′ g marks =
         let vertices = verticesOf positions marks count in
-        let x : Element = record { corners = a ∷ b ∷ c ∷ []; parity = p } in
+        let x : Element = record { corners = a ∷ b ∷ c ∷ []; parity = parityOf (getD words (4 * i + 3) 0) } in
         record {
           rows = λ u h.
               g .rows u h
               ∙ ap (λ (m : Vec3). toCorners Points3.sum m u (a ∷ b ∷ c ∷ []) (vectorRow s u)) (en marks)
               ∙ sym (ap (λ (b : Bool). cond b (toCorners Points3.sum (areaNormal vertices x) u (x .corners) (vectorRow s u)) (vectorRow s u)) (sym t ∙ not-false r e))
-              ∙ ap (λ (y : Element). areaStep vertices y u (vectorRow s u)) (triangle-is p ep);
+              ∙ ap (λ (y : Element). areaStep vertices y u (vectorRow s u)) triangle-is;
           rest = g .rest;
         }
 

@@ -1,8 +1,7 @@
 // Document 01, section 7: the normals of a simplex mesh in memory in three dimensions, from its triangles. Any words in any slices of any lengths, any
 // sizes.
-ghost use mathlib.Core.Path.{_≡_};
 ghost use Rattle.geom.specs.Answers.{verdictOf};
-ghost use Rattle.geom.specs.Normals.{Shaded, shading3};
+ghost use Rattle.geom.specs.Turning.{three, Shades};
 ghost use Rattle.judge.specs.Judged.{bench};
 use geom::answer::Ended;
 use geom::answer::Sizes;
@@ -26,7 +25,7 @@ pub fn compute_normals_3d(
     steps: &[u32],
     normals: &mut [f32],
 ) -> Ended
-    ensures { λ r. ⌜ _≡_ {A = Shaded} (record { verdict = verdictOf r; out = now (normals .exit) }) (shading3 sizes (bench (now (positions .entry)) (now (marks .entry)) (now (points .entry)) (now (lines .entry)) (now (areas .entry)) (now (volumes .entry)) (now (curves .entry)) (now (steps .entry))) (now (normals .entry))) ⌝ }
+    ensures { λ r. ⌜ Shades three sizes (bench (now (positions .entry)) (now (marks .entry)) (now (points .entry)) (now (lines .entry)) (now (areas .entry)) (now (volumes .entry)) (now (curves .entry)) (now (steps .entry))) (now (normals .entry)) (record { verdict = verdictOf r; out = now (normals .exit) }) ⌝ }
 {
     let ended = handed_in(
         Kind::Simplices,

@@ -6,15 +6,13 @@ ghost use lib.ListN.{length};
 ghost use lib.Seq.{sets};
 ghost use Rattle.numbers.specs.Points3 as Points3;
 ghost use Rattle.numbers.specs.Normal.{normalised3, cells3};
-ghost use Rattle.geom.specs.Memory.{firstOf, over};
+ghost use Rattle.geom.specs.Memory.{firstOf, over, parityOf};
 ghost use Rattle.geom.specs.Normals.{xyz, threeCorners, areaNormal, toCorners, gather3, origin3};
-ghost use Rattle.vertices.specs.Cells.{pointRow, verticesOf, elementsOf, Elements};
-ghost use Rattle.normals.specs.Cells.{elementAt, Holds};
+ghost use Rattle.vertices.specs.Cells.{pointRow, verticesOf, elementsOf};
+ghost use Rattle.normals.specs.Cells.{elementAt, Signed, Holds};
 ghost use Rattle.normals3.specs.Cells.{vectorWords, vectorRow, areaStep, Three};
 use crate::cells::put_vector;
 use crate::cells::vector_at;
-use geom::parity::Parity;
-use geom::words::parity_of;
 use geom::words::word;
 use normals::cells::clear;
 use normals::sign::sign;
@@ -50,17 +48,11 @@ fn three_corners(a: usize, b: usize, c: usize) -> bool
 }
 
 // Sign times cross(v2 - v1, v3 - v2).
-fn area_normal(
-    positions: &[f32],
-    a: usize,
-    b: usize,
-    c: usize,
-    parity: Parity,
-    count: usize,
-) -> Vec3
+fn area_normal(positions: &[f32], a: usize, b: usize, c: usize, parity: u32, count: usize) -> Vec3
     requires { ⌜ 4 * count ≤ length (now positions) ⌝ }
     requires { ⌜ Three a b c count ⌝ }
-    ensures { λ r. ⌜ ((marks : List ℕ) → r ≡ areaNormal (verticesOf (now (positions .entry)) marks count) (record { corners = a ∷ b ∷ c ∷ []; parity = parity })) ⌝ }
+    requires { ⌜ parity ≤ 1 ⌝ }
+    ensures { λ r. ⌜ ((marks : List ℕ) → r ≡ areaNormal (verticesOf (now (positions .entry)) marks count) (record { corners = a ∷ b ∷ c ∷ []; parity = parityOf parity })) ⌝ }
 {
     let v1 = xyz_at(positions, a);
     let v2 = xyz_at(positions, b);
@@ -91,7 +83,7 @@ fn to_corners(sums: &mut [f32], a: usize, b: usize, c: usize, n: Vec3, count: us
 // What triangle i adds: nothing where two corners are the same.
 fn add_triangle(positions: &[f32], areas: &[u32], sums: &mut [f32], i: usize, count: usize)
     requires { ⌜ 4 * count ≤ length (now positions) ⌝ }
-    requires { ⌜ Elements (now areas) 3 (i + 1) count ⌝ }
+    requires { ⌜ Signed (now areas) 3 (i + 1) count ⌝ }
     requires { ⌜ 3 * count ≤ length (now sums) ⌝ }
     ensures { λ r. ⌜ ((marks : List ℕ) → Holds vectorRow 3 count (now (sums .entry)) (λ (u : ℕ). areaStep (verticesOf (now (positions .entry)) marks count) (elementAt 3 (now (areas .entry)) i) u (vectorRow (now (sums .entry)) u)) (now (sums .exit))) ⌝ }
 {
@@ -102,7 +94,7 @@ fn add_triangle(positions: &[f32], areas: &[u32], sums: &mut [f32], i: usize, co
     if !three_corners(a, b, c) {
         return;
     }
-    let parity = parity_of(areas[start + 3]);
+    let parity = areas[start + 3];
     let n = area_normal(positions, a, b, c, parity, count);
     to_corners(sums, a, b, c, n, count);
 }
@@ -110,7 +102,7 @@ fn add_triangle(positions: &[f32], areas: &[u32], sums: &mut [f32], i: usize, co
 // What each vertex gathers from the triangles.
 fn gather(positions: &[f32], areas: &[u32], sums: &mut [f32], elements: usize, count: usize)
     requires { ⌜ 4 * count ≤ length (now positions) ⌝ }
-    requires { ⌜ Elements (now areas) 3 elements count ⌝ }
+    requires { ⌜ Signed (now areas) 3 elements count ⌝ }
     requires { ⌜ 3 * count ≤ length (now sums) ⌝ }
     ensures { λ r. ⌜ ((marks : List ℕ) → Holds vectorRow 3 count (now (sums .entry)) (λ (u : ℕ). gather3 (verticesOf (now (positions .entry)) marks count) u (elementsOf 3 (now (areas .entry)) elements) (vectorRow (now (sums .entry)) u)) (now (sums .exit))) ⌝ }
 {
@@ -156,7 +148,7 @@ fn settle(cells: &mut [f32], count: usize)
 // The normals of all vertices, from the triangles.
 pub fn shade(positions: &[f32], areas: &[u32], normals: &mut [f32], elements: usize, count: usize)
     requires { ⌜ 4 * count ≤ length (now positions) ⌝ }
-    requires { ⌜ Elements (now areas) 3 elements count ⌝ }
+    requires { ⌜ Signed (now areas) 3 elements count ⌝ }
     requires { ⌜ 3 * count ≤ length (now normals) ⌝ }
     ensures { λ r. ⌜ ((marks : List ℕ) → now (normals .exit) ≡ over (now (normals .entry)) (flatMap cells3 (firstOf (λ (v : ℕ). normalised3 (gather3 (verticesOf (now (positions .entry)) marks count) v (elementsOf 3 (now (areas .entry)) elements) origin3)) count))) ⌝ }
 {

@@ -6,21 +6,20 @@ use mathlib.Core.List.{List, [], _∷_, _++_, flatMap}
 use Prim.Native.Nat.{ℕ, _+_, _*_, _≤_}
 use native.Mathlib.Omega.{arith}
 use lib.Dec.{eqb}
-use lib.Ieee.{Float, neg, binary32}
+use lib.Ieee.{Float, add, sub, sum, neg, round, units, odd, binary32}
 use lib.ListN.{length, getD, take, drop}
 use lib.Seq.{sets}
 use borrow.Author.Tests.{eqb-true, eqb-false}
 use Rattle.numbers.proofs.Products.{sign-moves}
 use Rattle.numbers.specs.Binary32 as Binary32
-use Rattle.numbers.specs.Binary32.{_⊗_}
+use Rattle.numbers.specs.Binary32.{_⊖_, _⊗_}
 use Rattle.numbers.specs.Points3 as Points3
 use Rattle.numbers.specs.Points4 as Points4
 use Rattle.numbers.specs.Normal.{normalised4, cells4}
 use Rattle.numbers.specs.declared.vec4.Vec4.{Vec4}
-use Rattle.numbers.specs.declared.normal.Normal4.{Normal4}
-use Rattle.numbers.specs.declared.normal.Normal4.the-variants.{Direction, Flat}
 use Rattle.geom.specs.declared.answer.Sizes.{Sizes}
 use Rattle.geom.specs.declared.parity.Parity.{Parity}
+use Rattle.geom.specs.declared.parity.Parity.the-variants.{Even, Odd}
 use Rattle.geom.specs.declared.vertex.Vertex.{Vertex}
 use Rattle.geom.specs.Book.{simplices}
 use Rattle.geom.specs.Elements.{Element}
@@ -29,6 +28,7 @@ use Rattle.geom.specs.Floats.{points4}
 use Rattle.geom.specs.Memory.{Bench, firstOf, fourRow, elementRow, elementOf, parityOf, rowsOf, meshOf, over}
 use Rattle.geom.specs.Normals.{sign, toCorners, axis, volumeNormal, gather4, normals4}
 use Rattle.geom.proofs.Accepted.{vertex-count}
+use Rattle.geom.proofs.Signs.{sign-even, sign-odd}
 use Rattle.vertices.specs.Cells.{positionWords, pointRow, verticesOf, elementsOf, Elements}
 use Rattle.vertices.proofs.Written.{getD-sets-past}
 use Rattle.vertices.proofs.Gathering.{part-more, four-same, four-other, position-of}
@@ -64,12 +64,6 @@ points =
     go l v p h u true q = subst (λ (k : ℕ). pointRow (sets l (4 * v) (positionWords p)) k ≡ p) (eqb-true v u q) (four-same points4 l v p h)
     go l v p h u false q = four-other points4 l v p u (eqb-false v u q)
 
--- a normal is as wide as its cell
-pub wide4 : (n : Normal4) → length (cells4 n) ≡ 4
-unfolding cells4
-wide4 (Direction x y z w) = refl
-wide4 Flat = refl
-
 -- ---- the minors, four at once
 
 -- the determinants of three axes each, worked out together
@@ -85,6 +79,11 @@ minors-are a b c a₁ a₂ a₃ b₁ b₂ b₃ c₁ c₂ c₃ m₁ m₂ m₃ f�
     let second = ef₂ ∙ ap₂ products ea₂ (em₂ ∙ (λ i. crossProducts (eb₁ i) (eb₃ i) (ec₁ i) (ec₃ i))) in
     let third = ef₃ ∙ ap₂ products ea₃ (em₃ ∙ (λ i. crossProducts (eb₁ i) (eb₂ i) (ec₁ i) (ec₂ i))) in
     er ∙ ap₂ Points4.sum (ed ∙ ap₂ Points4.difference first second) third
+
+-- 0 - s for -s, of a sign
+pub from-none : (p : Parity) → Binary32.zero ⊖ sign p ≡ neg (sign p)
+from-none Even = rw sign-even (unfold neg add sub sum round units odd in refl)
+from-none Odd = rw sign-odd (unfold neg add sub sum round units odd in refl)
 
 -- the minors times their signs, each times the sign by parity, are the sign by parity times the signed minors
 signed : (p : Parity) (n : Vec4) → products (signsOf p) n ≡ Points4.scaled (sign p) (record { x = neg (n .x); y = n .y; z = neg (n .z); w = n .w })
@@ -128,24 +127,24 @@ module _ (words : List ℕ) (i count : ℕ) where
           fourth = rw ed (es .below i (omega arith) 3 (omega arith));
         }
 
-    tetrahedron-is : (p : Parity) → p ≡ parityOf (getD words (5 * i + 4) 0) → _≡_ {A = Element} (record { corners = a ∷ b ∷ c ∷ d ∷ []; parity = p }) (elementAt 4 words i)
+    tetrahedron-is : _≡_ {A = Element} (record { corners = a ∷ b ∷ c ∷ d ∷ []; parity = parityOf (getD words (5 * i + 4) 0) }) (elementAt 4 words i)
     unfolding elementRow elementOf
-    tetrahedron-is p ep =
+    tetrahedron-is =
         let ks = (λ j. ea j ∷ eb j ∷ ec j ∷ ed j ∷ []) ∙ sym (four-words words (5 * i) (omega (arith, es .room))) in
-        λ j. record { corners = ks j; parity = ep j }
+        λ j. record { corners = ks j; parity = parityOf (getD words (5 * i + 4) 0) }
 
-    pub tetrahedron-on : (p : Parity) → p ≡ parityOf (getD words (5 * i + 4) 0)
-        → (positions : List Float) (n : Vec4) → ((marks : List ℕ) → n ≡ volumeNormal (verticesOf positions marks count) (record { corners = a ∷ b ∷ c ∷ d ∷ []; parity = p }))
+    pub tetrahedron-on : (positions : List Float) (n : Vec4)
+        → ((marks : List ℕ) → n ≡ volumeNormal (verticesOf positions marks count) (record { corners = a ∷ b ∷ c ∷ d ∷ []; parity = parityOf (getD words (5 * i + 4) 0) }))
         → (s s′ : List Float) → Holds pointRow 4 count s (λ (u : ℕ). toCorners Points4.sum n u (a ∷ b ∷ c ∷ d ∷ []) (pointRow s u)) s′
         → (marks : List ℕ) → Holds pointRow 4 count s (λ (u : ℕ). volumeStep (verticesOf positions marks count) (elementAt 4 words i) u (pointRow s u)) s′
     unfolding volumeStep
-    tetrahedron-on p ep positions n en s s′ g marks =
+    tetrahedron-on positions n en s s′ g marks =
         let vertices = verticesOf positions marks count in
         record {
           rows = λ u h.
               g .rows u h
               ∙ ap (λ (m : Vec4). toCorners Points4.sum m u (a ∷ b ∷ c ∷ d ∷ []) (pointRow s u)) (en marks)
-              ∙ ap (λ (y : Element). volumeStep vertices y u (pointRow s u)) (tetrahedron-is p ep);
+              ∙ ap (λ (y : Element). volumeStep vertices y u (pointRow s u)) tetrahedron-is;
           rest = g .rest;
         }
 

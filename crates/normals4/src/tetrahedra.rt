@@ -6,13 +6,11 @@ ghost use lib.ListN.{length};
 ghost use lib.Seq.{sets};
 ghost use Rattle.numbers.specs.Points4 as Points4;
 ghost use Rattle.numbers.specs.Normal.{normalised4, cells4};
-ghost use Rattle.geom.specs.Memory.{firstOf, over};
+ghost use Rattle.geom.specs.Memory.{firstOf, over, parityOf};
 ghost use Rattle.geom.specs.Normals.{volumeNormal, toCorners, gather4};
-ghost use Rattle.vertices.specs.Cells.{positionWords, pointRow, verticesOf, elementsOf, Elements};
-ghost use Rattle.normals.specs.Cells.{elementAt, Holds};
+ghost use Rattle.vertices.specs.Cells.{positionWords, pointRow, verticesOf, elementsOf};
+ghost use Rattle.normals.specs.Cells.{elementAt, Signed, Holds};
 ghost use Rattle.normals4.specs.Cells.{products, firstAxes, secondAxes, thirdAxes, crossProducts, minorsOf, signsOf, volumeStep, Four};
-use geom::parity::Parity;
-use geom::words::parity_of;
 use geom::words::word;
 use normals::cells::clear;
 use normals::sign::sign;
@@ -94,15 +92,17 @@ fn minors(a: Vec4, b: Vec4, c: Vec4) -> Vec4
     first.sub(second).add(third)
 }
 
-// The signs of the minors, -, +, -, +, each times the sign by parity.
-fn signs(parity: Parity) -> Vec4
-    ensures { λ r. ⌜ r ≡ signsOf parity ⌝ }
+// The signs of the minors, -, +, -, +, each times the sign by parity. With 0.0 - s for -s all four are differences, which keeps the compiler from
+// mixing them with the minors, that are sums, when it works out four at once.
+fn signs(parity: u32) -> Vec4
+    requires { ⌜ parity ≤ 1 ⌝ }
+    ensures { λ r. ⌜ r ≡ signsOf (parityOf parity) ⌝ }
 {
     let s = sign(parity);
     Vec4 {
-        x: -s,
+        x: 0.0 - s,
         y: s,
-        z: -s,
+        z: 0.0 - s,
         w: s,
     }
 }
@@ -114,12 +114,13 @@ fn volume_normal(
     b: usize,
     c: usize,
     d: usize,
-    parity: Parity,
+    parity: u32,
     count: usize,
 ) -> Vec4
     requires { ⌜ 4 * count ≤ length (now positions) ⌝ }
     requires { ⌜ Four a b c d count ⌝ }
-    ensures { λ r. ⌜ ((marks : List ℕ) → r ≡ volumeNormal (verticesOf (now (positions .entry)) marks count) (record { corners = a ∷ b ∷ c ∷ d ∷ []; parity = parity })) ⌝ }
+    requires { ⌜ parity ≤ 1 ⌝ }
+    ensures { λ r. ⌜ ((marks : List ℕ) → r ≡ volumeNormal (verticesOf (now (positions .entry)) marks count) (record { corners = a ∷ b ∷ c ∷ d ∷ []; parity = parityOf parity })) ⌝ }
 {
     let origin = point_at(positions, a);
     let v1 = point_at(positions, b);
@@ -155,7 +156,7 @@ fn to_corners(sums: &mut [f32], a: usize, b: usize, c: usize, d: usize, n: Vec4,
 // What tetrahedron i adds.
 fn add_tetrahedron(positions: &[f32], volumes: &[u32], sums: &mut [f32], i: usize, count: usize)
     requires { ⌜ 4 * count ≤ length (now positions) ⌝ }
-    requires { ⌜ Elements (now volumes) 4 (i + 1) count ⌝ }
+    requires { ⌜ Signed (now volumes) 4 (i + 1) count ⌝ }
     requires { ⌜ 4 * count ≤ length (now sums) ⌝ }
     ensures { λ r. ⌜ ((marks : List ℕ) → Holds pointRow 4 count (now (sums .entry)) (λ (u : ℕ). volumeStep (verticesOf (now (positions .entry)) marks count) (elementAt 4 (now (volumes .entry)) i) u (pointRow (now (sums .entry)) u)) (now (sums .exit))) ⌝ }
 {
@@ -164,7 +165,7 @@ fn add_tetrahedron(positions: &[f32], volumes: &[u32], sums: &mut [f32], i: usiz
     let b = word(volumes, start + 1);
     let c = word(volumes, start + 2);
     let d = word(volumes, start + 3);
-    let parity = parity_of(volumes[start + 4]);
+    let parity = volumes[start + 4];
     let n = volume_normal(positions, a, b, c, d, parity, count);
     to_corners(sums, a, b, c, d, n, count);
 }
@@ -172,7 +173,7 @@ fn add_tetrahedron(positions: &[f32], volumes: &[u32], sums: &mut [f32], i: usiz
 // What each vertex gathers from the tetrahedra.
 fn gather(positions: &[f32], volumes: &[u32], sums: &mut [f32], elements: usize, count: usize)
     requires { ⌜ 4 * count ≤ length (now positions) ⌝ }
-    requires { ⌜ Elements (now volumes) 4 elements count ⌝ }
+    requires { ⌜ Signed (now volumes) 4 elements count ⌝ }
     requires { ⌜ 4 * count ≤ length (now sums) ⌝ }
     ensures { λ r. ⌜ ((marks : List ℕ) → Holds pointRow 4 count (now (sums .entry)) (λ (u : ℕ). gather4 (verticesOf (now (positions .entry)) marks count) u (elementsOf 4 (now (volumes .entry)) elements) (pointRow (now (sums .entry)) u)) (now (sums .exit))) ⌝ }
 {
@@ -210,7 +211,7 @@ fn settle(cells: &mut [f32], count: usize)
 // The normals of all vertices, from the tetrahedra.
 pub fn shade(positions: &[f32], volumes: &[u32], normals: &mut [f32], elements: usize, count: usize)
     requires { ⌜ 4 * count ≤ length (now positions) ⌝ }
-    requires { ⌜ Elements (now volumes) 4 elements count ⌝ }
+    requires { ⌜ Signed (now volumes) 4 elements count ⌝ }
     requires { ⌜ 4 * count ≤ length (now normals) ⌝ }
     ensures { λ r. ⌜ ((marks : List ℕ) → now (normals .exit) ≡ over (now (normals .entry)) (flatMap cells4 (firstOf (λ (v : ℕ). normalised4 (gather4 (verticesOf (now (positions .entry)) marks count) v (elementsOf 4 (now (volumes .entry)) elements) Points4.origin)) count))) ⌝ }
 {

@@ -4,7 +4,7 @@ use mathlib.Core.Path.{_≡_, refl, sym, ap, _∙_, subst}
 use mathlib.Core.Logic.{_⊎_, inl, inr, ⊎-elim}
 use mathlib.Core.Bool.{Bool, false, _&&_}
 use Prim.Native.Nat.{ℕ, zero, suc, _+_, _-_, _*_, _/_, _%_, _^_, _≤_, _<_}
-use native.Mathlib.Nat.{le-of-eq, lt-of-lt-of-le, lt-of-le-of-lt, lt-of-not-le, not-le-of-lt, mul-assoc, mul-comm, mul-left-comm, mul-le-mul-right, mul-lt-mul-of-pos-left, mul-lt-mul-of-pos-right, lt-of-mul-lt-mul-right, add-mul, mul-pos, pow-suc, mul-div-cancel, mul-right-comm, zero-mul, mul-one, le-mul-of-pos-right, zero-lt-suc, le-add-left, le-of-lt, mul-le-mul-left}
+use native.Mathlib.Nat.{le-trans, le-of-eq, lt-of-lt-of-le, lt-of-le-of-lt, lt-of-not-le, not-le-of-lt, mul-assoc, mul-comm, mul-left-comm, mul-le-mul-right, mul-lt-mul-of-pos-left, mul-lt-mul-of-pos-right, lt-of-mul-lt-mul-right, add-mul, mul-pos, pow-suc, mul-div-cancel, mul-right-comm, zero-mul, mul-one, le-mul-of-pos-right, zero-lt-suc, le-add-left, le-of-lt, mul-le-mul-left}
 use native.Mathlib.Decide.{decLe, decLt}
 use native.Mathlib.Omega.{arith}
 use lib.Dec.{T, leb, ltb, eqb, leb→le, ltb→lt}
@@ -131,17 +131,17 @@ digits-down m j l h =
     let e : l ≡ l - j + j = omega arith in
     subst (λ (z : ℕ). m * 1 * 2 ^ z ≡ m * 2 ^ (l - j) * 2 ^ j) (sym e) (simp (pow-add, mul-one, mul-assoc))
 
-exponent : (s : Bool) (m : ℕ) (e : ℤ) → down e ≤ 2 ^ 149 → (k : ℕ) × HasValue (fin s m e) s (m * 2 ^ k) (2 ^ 149)
+pub exponent : (s : Bool) (m : ℕ) (e : ℤ) → down e ≤ 2 ^ 149 → (k : ℕ) × HasValue (fin s m e) s (m * 2 ^ k) (2 ^ 149)
 exponent s m (pos j) h = (j + 149, (refl, digits-up m j 149))
 exponent s m (negsuc j) h = (149 - suc j, (refl, digits-down m (suc j) 149 (exponent-le (suc j) 149 h)))
 
 -- what the format asks of a value that is not 0
-record Held (m : ℕ) (e : ℤ) : Type 0 where
-  digits : suc m < 2 ^ 24
-  fine : down e ≤ 2 ^ 149
-  small : suc m * up e < 2 ^ 128 * down e
+pub record Held (m : ℕ) (e : ℤ) : Type 0 where
+  pub digits : suc m < 2 ^ 24
+  pub fine : down e ≤ 2 ^ 149
+  pub small : suc m * up e < 2 ^ 128 * down e
 
-held : (s : Bool) (m : ℕ) (e : ℤ) → T (fits binary32 (fin s (suc m) e)) → Held m e
+pub held : (s : Bool) (m : ℕ) (e : ℤ) → T (fits binary32 (fin s (suc m) e)) → Held m e
 unfolding fits
 held s m e h =
     let a = eqb (suc m % 2) 1 in
@@ -173,7 +173,7 @@ four-units r h = rw (← four-power (suc h)) (simp (pow-suc, mul-comm, mul-left-
 
 module _ (m : ℕ) (e : ℤ) (x-fits : T (fits binary32 (fin false (suc m) e))) where
   -- x is m + 1 digits, 2 ^ `places` times in units
-  places : ℕ
+  pub places : ℕ
   places = exponent false (suc m) e (held false m e x-fits .fine) .0
 
   x-value : HasValue (fin false (suc m) e) false (suc m * 2 ^ places) (2 ^ 149)
@@ -185,7 +185,7 @@ module _ (m : ℕ) (e : ℤ) (x-fits : T (fits binary32 (fin false (suc m) e))) 
       let l : suc m * 2 ^ places < 2 ^ 277 = light (suc m * up e) (2 ^ 149) (suc m * 2 ^ places) (down e) (2 ^ 128) (x-value .1) (held false m e x-fits .small) (pow-pos 149) in
       lt-of-not-le (λ g. not-le-of-lt (lt-of-le-of-lt (le-mul-of-pos-right (2 ^ places) (zero-lt-suc m)) (rw (mul-comm (2 ^ places) (suc m)) l)) (pow-mono g))
 
-  abbrev weight : ℕ
+  abbrev pub weight : ℕ
   weight = places + 149
 
   squares : inSquares (fin false (suc m) e) ≡ suc m * 2 ^ weight
@@ -197,10 +197,10 @@ module _ (m : ℕ) (e : ℤ) (x-fits : T (fits binary32 (fin false (suc m) e))) 
   digits-small = held false m e x-fits .digits
 
   -- the root is s units of 2 ^ (h + 1), as `RootOf.antt` has it
-  abbrev s : ℕ
+  abbrev pub s : ℕ
   s = (wholeRoot (radicand (suc m) weight) + 1) / 2
 
-  abbrev unit : ℕ
+  abbrev pub unit : ℕ
   unit = 2 ^ suc (half (suc m) weight)
 
   heavy : 149 ≤ weight
@@ -219,11 +219,17 @@ module _ (m : ℕ) (e : ℤ) (x-fits : T (fits binary32 (fin false (suc m) e))) 
   four-squares =
       ap (λ (z : ℕ). 4 * z) (squares ∙ sym (radicand-is (suc m) weight (zero-lt-suc m) digits-small heavy)) ∙ four-units radicand-here (half (suc m) weight)
 
-  root-value : HasValue (root (fin false (suc m) e)) false (s * unit) (2 ^ 149)
+  pub root-value : HasValue (root (fin false (suc m) e)) false (s * unit) (2 ^ 149)
   root-value =
       subst (λ (v : Float). HasValue v false (s * unit) (2 ^ 149))
       (sym (root-of-value (fin false (suc m) e) (suc m) places (zero-lt-suc m) digits-small x-value ∙ rounded-here (suc m) weight (zero-lt-suc m) digits-small heavy))
       (root-units (suc m) weight (zero-lt-suc m) digits-small heavy (omega (arith, places-small)))
+
+  -- no root is below the normal range
+  pub root-normal : 2 ^ 23 ≤ s * unit
+  root-normal =
+      le-trans (rounded-from radicand-here radicand-long radicand-short)
+      (le-mul-of-pos-right s (pow-pos (suc (half (suc m) weight))))
 
   -- The root of a binary32 number above 0 is a binary32 number above 0, and every other binary32 number that is not negative lies farther from the exact root.
   -- (One below 0 lies farther off than 0 does.)

@@ -1,20 +1,21 @@
--- How large the steps of smoothing get: no coordinate leaves -1,024 to 1,024. Any value of the type Float is taken, whether binary32 holds it or not.
+-- How large the results of steps get: what is at most B rounds to at most what B rounds to. So smoothing takes no coordinate out of -1,024 to 1,024, and no
+-- normal's sum overflows. Any value of the type Float is taken, whether binary32 holds it or not.
 -- Assumes nothing.
 use mathlib.Core.Path.{_≡_, refl, sym, ap, _∙_, subst}
 use mathlib.Core.Bool.{Bool, true, false, cond, Bool·beq, _&&_, _||_}
 use Prim.Native.Nat.{ℕ, zero, suc, _+_, _-_, _*_, _^_, _≤_, _<_, zero-le}
-use native.Mathlib.Nat.{le-trans, le-of-eq, le-of-lt, lt-of-lt-of-le, add-mul, mul-assoc, mul-comm, mul-right-comm, mul-pos, mul-one, one-mul, zero-mul, suc-mul, mul-le-mul-right, mul-le-mul-left, le-of-mul-le-mul-right, add-le-add, zero-lt-suc}
+use native.Mathlib.Nat.{le-trans, le-of-eq, le-of-lt, lt-of-lt-of-le, add-mul, mul-assoc, mul-comm, mul-right-comm, mul-pos, mul-one, one-mul, zero-mul, suc-mul, mul-le-mul, mul-le-mul-right, mul-le-mul-left, mul-mul-mul-comm, le-of-mul-le-mul-right, add-le-add, zero-lt-suc}
 use native.Mathlib.Decide.{decLt}
 use native.Mathlib.Omega.{arith}
 use borrow.Author.Tests.{ne-eqb}
 use lib.Dec.{T, ltb, eqb, ltb→lt, eqb→eq, leb→le, lit<}
 use lib.IntN.{negsuc}
-use lib.Pow.{pow-pos, pow-mono, shl-lt}
-use lib.Ieee.{Float, nan, inf, fin, binary32, unlike, up, down, odd, units, round, sum, add, mul, div, le, ofInt}
+use lib.Pow.{pow-pos, pow-add, pow-mono, shl-lt}
+use lib.Ieee.{Float, nan, inf, fin, binary32, unlike, up, down, odd, units, round, sum, add, sub, mul, div, neg, le, ofInt}
 use lib.Ieee.Exact.{HasValue, round-exact}
 use lib.Ieee.Fits.{round-is, down-pos, up-pos, and-l}
 use lib.Ieee.Order.{round-mono, kept, drop}
-use Rattle.numbers.specs.Binary32.{_⊕_, _⊗_, _⊘_, zero as nought, count}
+use Rattle.numbers.specs.Binary32.{_⊕_, _⊖_, _⊗_, _⊘_, zero as nought, count}
 
 -- a number of at most B, either sign
 abbrev pub Small : ℕ → Float → Type 0
@@ -29,7 +30,7 @@ abbrev pub Cap : ℕ → ℕ → Type 0
 Cap b B = HasValue (round binary32 false b 1) false B 1
 
 -- not negative, by its sign
-abbrev Plain : Float → Type 0
+abbrev pub Plain : Float → Type 0
 Plain nan = ⊥
 Plain (inf s) = s ≡ false
 Plain (fin s m e) = s ≡ false
@@ -46,7 +47,7 @@ units-plain q k = go (ltb (q * 2 ^ k) (2 ^ 277))
     go true = odd-plain q
     go false = refl
 
-round-plain : (a c : ℕ) → Plain (round binary32 false a c)
+pub round-plain : (a c : ℕ) → Plain (round binary32 false a c)
 round-plain a c = subst Plain (sym (round-is binary32 false a c)) (units-plain (kept 24 (a * 2 ^ 149) c) (drop 24 (a * 2 ^ 149) c))
 
 units-sign : (s : Bool) (q k B : ℕ) → Small B (units binary32 false q k) → Small B (units binary32 s q k)
@@ -93,7 +94,7 @@ under (fin false m e) (fin false n d) B p l h =
     le-of-mul-le-mul-right {k = down d} (le-trans a (le-of-eq c)) (down-pos d)
 
 -- a fraction of at most b rounds to at most what b rounds to
-small-round : (s : Bool) (a c b B : ℕ) → Cap b B → 0 < c → a ≤ b * c → Small B (round binary32 s a c)
+pub small-round : (s : Bool) (a c b B : ℕ) → Cap b B → 0 < c → a ≤ b * c → Small B (round binary32 s a c)
 small-round s a c b B cap C l =
     round-sign s a c B
     (under (round binary32 false a c) (round binary32 false b 1) B (round-plain a c)
@@ -104,11 +105,14 @@ cap-whole B l =
     let w : 173 ≤ 277 = leb→le 173 277 tt in
     round-exact binary32 false B 1 B 149 (zero-lt-suc 0) l (lt-of-lt-of-le (shl-lt 24 149 l) (pow-mono w)) (sym (mul-one (B * 2 ^ 149)))
 
+-- q * 2 ^ j, q being of at most 24 digits
+pub cap-shifted : (q j : ℕ) → q < 2 ^ 24 → 24 + (j + 149) ≤ 277 → Cap (q * 2 ^ j) (q * 2 ^ j)
+cap-shifted q j l w =
+    round-exact binary32 false (q * 2 ^ j) 1 q (j + 149) (zero-lt-suc 0) l (lt-of-lt-of-le (shl-lt 24 (j + 149) l) (pow-mono w))
+    (mul-assoc q (2 ^ j) (2 ^ 149) ∙ ap (λ (z : ℕ). q * z) (sym (pow-add 2 j 149)) ∙ sym (mul-one (q * 2 ^ (j + 149))))
+
 cap-times : (c : ℕ) → c < 2 ^ 24 → Cap (c * 1024) (c * 1024)
-cap-times c l =
-    let w : 183 ≤ 277 = leb→le 183 277 tt in
-    round-exact binary32 false (c * 1024) 1 c 159 (zero-lt-suc 0) l (lt-of-lt-of-le (shl-lt 24 159 l) (pow-mono w))
-    (mul-assoc c 1024 (2 ^ 149) ∙ sym (mul-one (c * 2 ^ 159)))
+cap-times c l = cap-shifted c 10 l (leb→le 183 277 tt)
 
 -- the tie past 2 ^ 24 of them goes to the even neighbour
 cap-tie : Cap (2 ^ 34 + 1024) (2 ^ 34)
@@ -155,6 +159,26 @@ small-add A B C (fin s m e) (fin t n d) cap h k = go (Bool·beq s t) (ltb X Y) (
     go true p q = small-round s (X + Y) c (A + B) C cap C0 both
     go false true q = small-round t (Y - X) c (A + B) C cap C0 (other X Y ((A + B) * c) both)
     go false false q = small-round (s && q) (X - Y) c (A + B) C cap C0 (fewer X Y ((A + B) * c) both)
+
+pub small-neg : (B : ℕ) (x : Float) → Small B x → Small B (neg x)
+unfolding neg
+small-neg B nan h = h
+small-neg B (inf s) h = h
+small-neg B (fin s m e) h = h
+
+pub small-sub : (A B C : ℕ) (x y : Float) → Cap (A + B) C → Small A x → Small B y → Small C (x ⊖ y)
+unfolding sub
+small-sub A B C x y cap h k = small-add A B C x (neg y) cap h (small-neg B y k)
+
+pub small-mul : (A B C : ℕ) (x y : Float) → Cap (A * B) C → Small A x → Small B y → Small C (x ⊗ y)
+unfolding mul
+small-mul A B C nan y cap h k = absurd h
+small-mul A B C (inf s) y cap h k = absurd h
+small-mul A B C (fin s m e) nan cap h k = absurd k
+small-mul A B C (fin s m e) (inf t) cap h k = absurd k
+small-mul A B C (fin s m e) (fin t n d) cap h k =
+    small-round (unlike s t) (m * up e * (n * up d)) (down e * down d) (A * B) C cap (mul-pos (down-pos e) (down-pos d))
+    (le-trans (mul-le-mul h k) (le-of-eq (mul-mul-mul-comm A (down e) B (down d))))
 
 -- a weight of 1 / 2 ^ (j + 1)
 pub small-weight : (j A C : ℕ) (y : Float) → Cap C C → A ≡ C * 2 ^ suc j → Small A y → Small C (fin false 1 (negsuc j) ⊗ y)

@@ -2,9 +2,10 @@
 //!
 //! - `sheet`: an input (depth byte, smooth_time byte, file) from standard input; the listing or `refused N after P`.
 //! - `strands`, `triangulate`, `replaced`, `normals3`, `normals4`: the same input; a listing of what the refined mesh gives.
+//! - `turned`, `turned3`, `turned4`: the same input; the listing of the refined mesh with every parity changed, and of its normals.
 //! - `random KIND SEED COUNT [VERTS ELEMENTS DEPTH DAMAGED]`: COUNT inputs as hexadecimal, one a line; KIND is `cubes`
 //!   or `simplices`; one input in DAMAGED is damaged, none at 0.
-//! - `answers [sheet|strands|triangulate|replaced|normals3|normals4]`: such lines from standard input; each one's output as hexadecimal.
+//! - `answers [WORD]`: such lines from standard input; each one's output as hexadecimal. WORD is any of those above but `random`.
 
 use std::{
     env,
@@ -19,9 +20,9 @@ use reference::{
 };
 
 const USAGE: &str =
-    "usage: reference sheet | strands | triangulate | replaced | normals3 | normals4 < INPUT
+    "usage: reference sheet | strands | triangulate | replaced | normals3 | normals4 | turned | turned3 | turned4 < INPUT
        reference random cubes|simplices SEED COUNT [VERTS ELEMENTS DEPTH DAMAGED]
-       reference answers [sheet|strands|triangulate|replaced|normals3|normals4] < HEX LINES";
+       reference answers [sheet|strands|triangulate|replaced|normals3|normals4|turned|turned3|turned4] < HEX LINES";
 
 fn main() -> ExitCode {
     let args: Vec<String> = env::args().skip(1).collect();

@@ -168,6 +168,21 @@ impl Mesh {
         }
     }
 
+    /// Document 02's U5: the mesh with every parity changed, of lines, areas, volumes and of each curve's steps. The word beside a curve's last
+    /// vertex has no step and stays.
+    #[must_use]
+    pub fn turned(&self) -> Self {
+        let mut turned = self.clone();
+        for list in [&mut turned.lines, &mut turned.areas, &mut turned.volumes] {
+            list.iter_mut().for_each(|e| e.parity ^= 1);
+        }
+        for curve in &mut turned.curves {
+            let steps = curve.verts.len() - 1;
+            curve.steps[..steps].iter_mut().for_each(|s| *s ^= 1);
+        }
+        turned
+    }
+
     /// The carried geometry of an accepted mesh. A and V are the corners of an area and of a volume.
     #[must_use]
     pub fn geometry<const A: usize, const V: usize, E>(&self) -> Geometry<E>

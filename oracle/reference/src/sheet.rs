@@ -1,5 +1,5 @@
 //! The program `sheet` of document 01, section 8, as a function from input bytes to output, and the same input taken
-//! on to triangulation and normals, or asked for its tags.
+//! on to triangulation and normals, asked for its tags, or with every parity changed.
 
 use crate::{
     file,
@@ -23,6 +23,9 @@ pub enum Sheet {
     Replaced,
     Normals3,
     Normals4,
+    Turned,
+    Turned3,
+    Turned4,
 }
 
 impl Sheet {
@@ -36,13 +39,17 @@ impl Sheet {
             "replaced" => Some(Self::Replaced),
             "normals3" => Some(Self::Normals3),
             "normals4" => Some(Self::Normals4),
+            "turned" => Some(Self::Turned),
+            "turned3" => Some(Self::Turned3),
+            "turned4" => Some(Self::Turned4),
             _ => None,
         }
     }
 
     /// The output for one input. Triangulation and normals are those of the refined mesh (depth 0: of the file's
     /// mesh); cubes are cut into simplices before their normals are worked out, and a mesh of simplices has no
-    /// triangulation, which says `not cubes`. What is cut is lent the limit, so that no refusal comes from it.
+    /// triangulation, which says `not cubes`. What is cut is lent the limit, so that no refusal comes from it. Document
+    /// 02's U5 changes every parity of the refined mesh.
     #[must_use]
     pub fn of(self, input: &[u8]) -> String {
         let (passes, mesh) = match refined(input) {
@@ -57,6 +64,9 @@ impl Sheet {
             (Self::Triangulated | Self::Replaced, Kind::Simplices) => "not cubes\n".to_string(),
             (Self::Normals3, _) => listing::normals(passes, &normals_3d(&simplices(mesh))),
             (Self::Normals4, _) => listing::normals(passes, &normals_4d(&simplices(mesh))),
+            (Self::Turned, _) => listing::mesh(passes, &mesh.turned()),
+            (Self::Turned3, _) => listing::normals(passes, &normals_3d(&simplices(mesh.turned()))),
+            (Self::Turned4, _) => listing::normals(passes, &normals_4d(&simplices(mesh.turned()))),
         }
     }
 }

@@ -190,7 +190,12 @@ fn listing_of_every_line_form() {
         v 2 00000000 80000000 44800000 C4800000\n\
         v 3 00000000 80000000 44800000 C4800000\n\
         p 3\nl 1 0 o\na 0 1 2 e\ns 0 1 2 3 o\nc 3\nc 0 1 1 e o\n";
-    assert_eq!(Sheet::Mesh.of(&sheet::input(0, true, &mesh)), expected);
+    let input = sheet::input(0, true, &mesh);
+    assert_eq!(Sheet::Mesh.of(&input), expected);
+    // Every parity changed (document 02, U5).
+    let (verts, _) = expected.split_once("p 3").unwrap();
+    let turned = "p 3\nl 1 0 e\na 0 1 2 o\ns 0 1 2 3 e\nc 3\nc 0 1 1 o e\n";
+    assert_eq!(Sheet::Turned.of(&input), format!("{verts}{turned}"));
 }
 
 #[test]

@@ -1,5 +1,5 @@
 -- `aljumeste::shading::aljumeste_compute_normals_3d` meets its contract: the entry's answer as a number. Assumes nothing.
-use Rattle.geom.specs.Normals.{shading3}
+use Rattle.geom.specs.Turning.{three}
 use Rattle.aljumeste.proofs.Numbers.{shades3-numbered, exported-shading}
 use borrow.Author.Needs.{needs}
 use Rattle.aljumeste.proofs.shading.aljumeste_compute_normals_3d.Statement.{statement}
@@ -18,7 +18,7 @@ same-length : tie.Need-same-length
 same-length c = search needs
 
 returns : tie.Need-returns
-returns c = exported-shading shading3 _ _ _ _ _ _ _ (c .before .before .before .before .before .stated .ensures) (c .number .ensures) (c .before .before .before .compute-normals-3d .ensures)
+returns c = exported-shading three _ _ _ _ _ _ _ (c .before .before .before .before .before .stated .ensures) (c .number .ensures) (c .before .before .before .compute-normals-3d .ensures)
 
 pub aljumeste-compute-normals-3d-spec : {M : Type 1} → statement M
 aljumeste-compute-normals-3d-spec =

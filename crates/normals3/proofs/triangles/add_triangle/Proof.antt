@@ -1,5 +1,6 @@
 -- `normals3::triangles::add_triangle` meets its contract. Assumes nothing.
 use borrow.Author.Needs.{needs}
+use native.Mathlib.Omega.{arith}
 use Rattle.normals3.proofs.Faces.{three-below, triangle-off, triangle-on}
 use Rattle.normals3.proofs.triangles.add_triangle.Statement.{statement}
 use Rattle.normals3.proofs.triangles.add_triangle.Tie as tie
@@ -26,31 +27,28 @@ three-corners-requires : tie.Need-three-corners-requires
 three-corners-requires c κs = search needs
 
 returns : tie.Need-returns
-returns c = λ marks. triangle-off _ _ _ (c .before .before .before .before .before .before .before .before .pre .1 .0) _ _ _ (c .before .before .before .before .word .ensures) (c .before .before .before .word2 .ensures) (c .before .before .word3 .ensures) _ (c .before .three-corners .ensures) (c .if1 .taken) _ marks _
+returns c = λ marks. triangle-off _ _ _ (c .before .before .before .before .before .before .before .before .pre .1 .0 .elements) _ _ _ (c .before .before .before .before .word .ensures) (c .before .before .before .word2 .ensures) (c .before .before .word3 .ensures) _ (c .before .three-corners .ensures) (c .if1 .taken) _ marks _
 
-add-parity-of : tie.Need-add-parity-of
-add-parity-of c = search needs
+add-parity : tie.Need-add-parity
+add-parity c = search needs
 
-mul-parity-of : tie.Need-mul-parity-of
-mul-parity-of c = search needs
+mul-parity : tie.Need-mul-parity
+mul-parity c = search needs
 
-shared-slice-read-parity-of : tie.Need-shared-slice-read-parity-of
-shared-slice-read-parity-of c = search needs
-
-parity-of-requires : tie.Need-parity-of-requires
-parity-of-requires c κs = search needs
+shared-slice-read-parity : tie.Need-shared-slice-read-parity
+shared-slice-read-parity c = search needs
 
 area-normal-requires : tie.Need-area-normal-requires
-area-normal-requires c κs = (c .before .before .before .before .before .before .before .before .before .before .pre .0, three-below _ _ _ (c .before .before .before .before .before .before .before .before .before .before .pre .1 .0) _ _ _ (c .before .before .before .before .before .before .word .ensures) (c .before .before .before .before .before .word2 .ensures) (c .before .before .before .before .word3 .ensures))
+area-normal-requires c κs = (c .before .before .before .before .before .before .before .before .before .pre .0, (three-below _ _ _ (c .before .before .before .before .before .before .before .before .before .pre .1 .0 .elements) _ _ _ (c .before .before .before .before .before .word .ensures) (c .before .before .before .before .word2 .ensures) (c .before .before .before .word3 .ensures), c .before .before .before .before .before .before .before .before .before .pre .1 .0 .parity _ (omega arith)))
 
 to-corners-requires : tie.Need-to-corners-requires
-to-corners-requires c κs = (c .before .before .before .before .before .before .before .before .before .before .before .before .pre .1 .1, three-below _ _ _ (c .before .before .before .before .before .before .before .before .before .before .before .before .pre .1 .0) _ _ _ (c .before .before .before .before .before .before .before .before .word .ensures) (c .before .before .before .before .before .before .before .word2 .ensures) (c .before .before .before .before .before .before .word3 .ensures))
+to-corners-requires c κs = (c .before .before .before .before .before .before .before .before .before .before .before .pre .1 .1, three-below _ _ _ (c .before .before .before .before .before .before .before .before .before .before .before .pre .1 .0 .elements) _ _ _ (c .before .before .before .before .before .before .before .word .ensures) (c .before .before .before .before .before .before .word2 .ensures) (c .before .before .before .before .before .word3 .ensures))
 
 same-length : tie.Need-same-length
 same-length c = search needs
 
 returns-2 : tie.Need-returns-2
-returns-2 c = triangle-on _ _ _ (c .before .before .before .before .before .before .before .before .before .before .before .before .before .before .before .pre .1 .0) _ _ _ (c .before .before .before .before .before .before .before .before .before .before .before .word .ensures) (c .before .before .before .before .before .before .before .before .before .before .word2 .ensures) (c .before .before .before .before .before .before .before .before .before .word3 .ensures) _ (c .before .before .before .before .before .before .before .before .three-corners .ensures) (c .before .before .before .before .before .before .before .if1 .left) _ (c .before .before .before .before .before .parity-of .ensures) _ _ (c .before .before .before .before .area-normal .ensures) _ _ (c .before .before .to-corners .ensures)
+returns-2 c = triangle-on _ _ _ (c .before .before .before .before .before .before .before .before .before .before .before .before .before .before .pre .1 .0 .elements) _ _ _ (c .before .before .before .before .before .before .before .before .before .before .word .ensures) (c .before .before .before .before .before .before .before .before .before .word2 .ensures) (c .before .before .before .before .before .before .before .before .word3 .ensures) _ (c .before .before .before .before .before .before .before .three-corners .ensures) (c .before .before .before .before .before .before .if1 .left) _ _ (c .before .before .before .before .area-normal .ensures) _ _ (c .before .before .to-corners .ensures)
 
 pub add-triangle-spec : {M : Type 1} → statement M
 add-triangle-spec =
@@ -64,10 +62,9 @@ add-triangle-spec =
     word-requires-3
     three-corners-requires
     returns
-    add-parity-of
-    mul-parity-of
-    shared-slice-read-parity-of
-    parity-of-requires
+    add-parity
+    mul-parity
+    shared-slice-read-parity
     area-normal-requires
     to-corners-requires
     same-length

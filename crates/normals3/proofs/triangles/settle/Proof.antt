@@ -2,7 +2,8 @@
 use borrow.Author.Needs.{needs}
 use Prim.Native.Nat.{_-_}
 use Rattle.numbers.specs.Normal.{normalised3, cells3}
-use Rattle.normals3.proofs.Faces.{vectors, wide3}
+use Rattle.numbers.proofs.Normals.{wide3}
+use Rattle.normals3.proofs.Faces.{vectors}
 use Rattle.normals.proofs.Settling.{Settling, settling-start, settling-length, settling-room, settling-on, settling-done}
 use Rattle.normals3.proofs.triangles.settle.Statement.{statement}
 use Rattle.normals3.proofs.triangles.settle.Tie as tie

@@ -6,7 +6,8 @@ use Rattle.numbers.specs.Normal.{normalised3, cells3}
 use Rattle.numbers.specs.declared.vec3.Vec3.{Vec3}
 use Rattle.geom.specs.Normals.{gather3}
 use Rattle.vertices.specs.Cells.{verticesOf, elementsOf}
-use Rattle.normals3.proofs.Faces.{vectors, wide3}
+use Rattle.numbers.proofs.Normals.{wide3}
+use Rattle.normals3.proofs.Faces.{vectors}
 use Rattle.normals.proofs.Settling.{shaded}
 use Rattle.normals3.proofs.triangles.shade.Statement.{statement}
 use Rattle.normals3.proofs.triangles.shade.Tie as tie

@@ -1,5 +1,6 @@
 -- `normals4::tetrahedra::add_tetrahedron` meets its contract. Assumes nothing.
 use borrow.Author.Needs.{needs}
+use native.Mathlib.Omega.{arith}
 use Rattle.normals4.proofs.Faces.{four-below, tetrahedron-on}
 use Rattle.normals4.proofs.tetrahedra.add_tetrahedron.Statement.{statement}
 use Rattle.normals4.proofs.tetrahedra.add_tetrahedron.Tie as tie
@@ -28,29 +29,26 @@ add-word-3 c = search needs
 word-requires-4 : tie.Need-word-requires-4
 word-requires-4 c κs = search needs
 
-add-parity-of : tie.Need-add-parity-of
-add-parity-of c = search needs
+add-parity : tie.Need-add-parity
+add-parity c = search needs
 
-mul-parity-of : tie.Need-mul-parity-of
-mul-parity-of c = search needs
+mul-parity : tie.Need-mul-parity
+mul-parity c = search needs
 
-shared-slice-read-parity-of : tie.Need-shared-slice-read-parity-of
-shared-slice-read-parity-of c = search needs
-
-parity-of-requires : tie.Need-parity-of-requires
-parity-of-requires c κs = search needs
+shared-slice-read-parity : tie.Need-shared-slice-read-parity
+shared-slice-read-parity c = search needs
 
 volume-normal-requires : tie.Need-volume-normal-requires
-volume-normal-requires c κs = (c .before .before .before .before .before .before .before .before .before .pre .0, four-below _ _ _ (c .before .before .before .before .before .before .before .before .before .pre .1 .0) _ _ _ _ (c .before .before .before .before .before .word .ensures) (c .before .before .before .before .word2 .ensures) (c .before .before .before .word3 .ensures) (c .before .before .word4 .ensures))
+volume-normal-requires c κs = (c .before .before .before .before .before .before .before .before .pre .0, (four-below _ _ _ (c .before .before .before .before .before .before .before .before .pre .1 .0 .elements) _ _ _ _ (c .before .before .before .before .word .ensures) (c .before .before .before .word2 .ensures) (c .before .before .word3 .ensures) (c .before .word4 .ensures), c .before .before .before .before .before .before .before .before .pre .1 .0 .parity _ (omega arith)))
 
 to-corners-requires : tie.Need-to-corners-requires
-to-corners-requires c κs = (c .before .before .before .before .before .before .before .before .before .before .before .pre .1 .1, four-below _ _ _ (c .before .before .before .before .before .before .before .before .before .before .before .pre .1 .0) _ _ _ _ (c .before .before .before .before .before .before .before .word .ensures) (c .before .before .before .before .before .before .word2 .ensures) (c .before .before .before .before .before .word3 .ensures) (c .before .before .before .before .word4 .ensures))
+to-corners-requires c κs = (c .before .before .before .before .before .before .before .before .before .before .pre .1 .1, four-below _ _ _ (c .before .before .before .before .before .before .before .before .before .before .pre .1 .0 .elements) _ _ _ _ (c .before .before .before .before .before .before .word .ensures) (c .before .before .before .before .before .word2 .ensures) (c .before .before .before .before .word3 .ensures) (c .before .before .before .word4 .ensures))
 
 same-length : tie.Need-same-length
 same-length c = search needs
 
 returns : tie.Need-returns
-returns c = tetrahedron-on _ _ _ (c .before .before .before .before .before .before .before .before .before .before .before .before .before .before .pre .1 .0) _ _ _ _ (c .before .before .before .before .before .before .before .before .before .before .word .ensures) (c .before .before .before .before .before .before .before .before .before .word2 .ensures) (c .before .before .before .before .before .before .before .before .word3 .ensures) (c .before .before .before .before .before .before .before .word4 .ensures) _ (c .before .before .before .before .before .parity-of .ensures) _ _ (c .before .before .before .before .volume-normal .ensures) _ _ (c .before .before .to-corners .ensures)
+returns c = tetrahedron-on _ _ _ (c .before .before .before .before .before .before .before .before .before .before .before .before .before .pre .1 .0 .elements) _ _ _ _ (c .before .before .before .before .before .before .before .before .before .word .ensures) (c .before .before .before .before .before .before .before .before .word2 .ensures) (c .before .before .before .before .before .before .before .word3 .ensures) (c .before .before .before .before .before .before .word4 .ensures) _ _ (c .before .before .before .before .volume-normal .ensures) _ _ (c .before .before .to-corners .ensures)
 
 pub add-tetrahedron-spec : {M : Type 1} → statement M
 add-tetrahedron-spec =
@@ -64,10 +62,9 @@ add-tetrahedron-spec =
     word-requires-3
     add-word-3
     word-requires-4
-    add-parity-of
-    mul-parity-of
-    shared-slice-read-parity-of
-    parity-of-requires
+    add-parity
+    mul-parity
+    shared-slice-read-parity
     volume-normal-requires
     to-corners-requires
     same-length

@@ -2,7 +2,8 @@
 use borrow.Author.Needs.{needs}
 use Prim.Native.Nat.{_-_}
 use Rattle.numbers.specs.Normal.{normalised4, cells4}
-use Rattle.normals4.proofs.Faces.{points, wide4}
+use Rattle.numbers.proofs.Normals.{wide4}
+use Rattle.normals4.proofs.Faces.{points}
 use Rattle.normals.proofs.Settling.{Settling, settling-start, settling-length, settling-room, settling-on, settling-done}
 use Rattle.normals4.proofs.tetrahedra.settle.Statement.{statement}
 use Rattle.normals4.proofs.tetrahedra.settle.Tie as tie

@@ -6,7 +6,8 @@ use Rattle.numbers.specs.Normal.{normalised4, cells4}
 use Rattle.numbers.specs.declared.vec4.Vec4.{Vec4}
 use Rattle.geom.specs.Normals.{gather4}
 use Rattle.vertices.specs.Cells.{verticesOf, elementsOf}
-use Rattle.normals4.proofs.Faces.{points, wide4}
+use Rattle.numbers.proofs.Normals.{wide4}
+use Rattle.normals4.proofs.Faces.{points}
 use Rattle.normals.proofs.Settling.{shaded}
 use Rattle.normals4.proofs.tetrahedra.shade.Statement.{statement}
 use Rattle.normals4.proofs.tetrahedra.shade.Tie as tie
