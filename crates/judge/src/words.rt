@@ -13,15 +13,19 @@ ghost use Rattle.judge.specs.Words.{columnBelow, wordsBelow, Column, Ele
 use geom::words::number;
 use geom::words::word;
 
-// Whether one word of each row is below the bound. Every row is looked at, so that the compiler takes several at once.
+// Whether one word of each row is below the bound. Every row is looked at, so that the compiler takes several at once, and the place of the word
+// goes from row to row by a sum, where the width isn't known to the compiler.
 pub fn column_below(words: &[u32], width: usize, column: usize, rows: usize, bound: usize) -> bool
     requires { ⌜ Column (now words) width column rows ⌝ }
+    requires { ⌜ width ≤ 9 ⌝ }
     ensures { λ r. ⌜ r ≡ columnBelow (now (words .entry)) width column rows bound ⌝ }
 {
     let mut all = true;
+    let mut at = column;
     let mut i: usize = 0;
     while i < rows {
-        all = all & (word(words, width * i + column) < bound);
+        all = all & (word(words, at) < bound);
+        at += width;
         i += 1;
     }
     all

@@ -80,7 +80,7 @@ nonzero nan = true
 nonzero (inf s) = true
 nonzero (fin s m e) = ltb 0 m
 
-pub neg-nonzero : (x : Float) → T (nonzero x) → T (nonzero (neg x))
+neg-nonzero : (x : Float) → T (nonzero x) → T (nonzero (neg x))
 unfolding neg
 neg-nonzero nan h = tt
 neg-nonzero (inf s) h = tt

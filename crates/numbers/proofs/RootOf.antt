@@ -1,13 +1,13 @@
 -- The definition of the root at a number that is known by its digits, or by its bit pattern. Assumes nothing.
 use mathlib.Core.Path.{_≡_, refl, sym, ap, _∙_, subst}
 use mathlib.Core.Logic.{⊎-elim}
-use mathlib.Core.Bool.{Bool, true, false, cond}
+use mathlib.Core.Bool.{Bool, true, false, cond, _&&_, and-eq-true-iff, false≢true}
 use Prim.Native.Nat.{ℕ, zero, suc, _+_, _-_, _*_, _/_, _%_, _^_, _≤_, _<_}
 use native.Mathlib.Nat.{mul-assoc, mul-comm, mul-pos, zero-mul, le-add-left, lt-of-le-of-lt, mul-le-mul, eq-or-lt-of-le}
 use native.Mathlib.Numerals.{add-one}
 use native.Mathlib.Omega.{arith}
-use borrow.Author.Tests.{le-leb, lt-leb}
-use lib.Dec.{T, leb, eqb, lit<}
+use borrow.Author.Tests.{le-leb, lt-leb, ltb-true, ltb-false}
+use lib.Dec.{T, leb, ltb, eqb, lit<}
 use lib.Pow.{pow-pos, pow-mono, pow-add}
 use lib.Ieee.{Float, nan, inf, fin, binary32, ofFields, ofBits, toBits, up, down, units, fits}
 use lib.Ieee.Exact.{HasValue, units-val}
@@ -99,7 +99,7 @@ zero-own : (s : Bool) → root (ofFields binary32 s 0 0) ≡ ofFields binary32 s
 unfolding root ofFields
 zero-own s = refl
 
-pub root-of-zero : (b : ℕ) → b % 2147483648 ≡ 0 → root (ofBits binary32 b) ≡ ofBits binary32 b
+root-of-zero : (b : ℕ) → b % 2147483648 ≡ 0 → root (ofBits binary32 b) ≡ ofBits binary32 b
 root-of-zero b e = rw (fields-at b (leb 2147483648 b) 0 0 refl (omega arith) (omega arith)) (zero-own (leb 2147483648 b))
 
 pub root-of-nan : (x : Float) → x ≡ nan → root x ≡ x
@@ -116,10 +116,30 @@ unfolding root
 top-own true = refl
 top-own false = refl
 
-pub root-of-top : (b : ℕ) → 0x7F80_0000 ≤ b → b < 2147483648 → root (ofBits binary32 b) ≡ ofBits binary32 b
+root-of-top : (b : ℕ) → 0x7F80_0000 ≤ b → b < 2147483648 → root (ofBits binary32 b) ≡ ofBits binary32 b
 root-of-top b big small =
     let t = b % 8388608 in
     rw (fields-at b false 255 t (lt-leb 2147483648 b small) (omega arith) refl, top-field false t) (top-own (eqb t 0))
+
+-- whether the pattern is of a number above 0 and below the infinity, as two comparisons tell it
+abbrev aboveZero : ℕ → Bool
+aboveZero b = ltb 0 b && ltb b 0x7F80_0000
+
+pub above-zero : (b : ℕ) → aboveZero b ≡ true → (0 < b) × (b < 0x7F80_0000)
+above-zero b e =
+    let both = and-eq-true-iff (ltb 0 b) (ltb b 0x7F80_0000) .0 e in
+    (ltb-true _ _ (both .0), ltb-true _ _ (both .1))
+
+-- where it is not, and none below 0 either, it is of a zero or has the field of all ones
+pub root-of-own : (b : ℕ) → aboveZero b ≡ false → b ≤ 2147483648 → root (ofBits binary32 b) ≡ ofBits binary32 b
+root-of-own b none most = go (ltb 0 b) (ltb b 0x7F80_0000) refl refl
+  where
+    go : (p q : Bool) → ltb 0 b ≡ p → ltb b 0x7F80_0000 ≡ q → root (ofBits binary32 b) ≡ ofBits binary32 b
+    go false q zero-told top-told = let l : b ≤ 0 = ltb-false _ _ zero-told in root-of-zero b (omega arith)
+    go true true zero-told top-told = absurd (false≢true (sym none ∙ rw (zero-told, top-told)))
+    go true false zero-told top-told =
+        let l : 0x7F80_0000 ≤ b = ltb-false _ _ top-told in
+        ⊎-elim (λ (e : b ≡ 2147483648). root-of-zero b (omega arith)) (λ small. root-of-top b l small) (eq-or-lt-of-le most)
 
 top-none : (z : Bool) → root (cond z (inf true) nan) ≡ nan
 unfolding root

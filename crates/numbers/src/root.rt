@@ -15,7 +15,8 @@ const FIELD: u32 = 0x0080_0000;
 const INFINITY: u32 = 0x7F80_0000;
 
 // The square root. A zero, the infinity and a NaN are their own, and a number below zero has none. A NaN's pattern can't be
-// read, so it is told by its not being equal to itself.
+// read, so it is told by its not being equal to itself. Most numbers are above zero and below the infinity, so one comparison tells that of a pattern
+// before any other is made.
 pub fn root(x: f32) -> f32
     ensures { λ r. ⌜ r ≡ Root.root x ⌝ }
 {
@@ -23,16 +24,13 @@ pub fn root(x: f32) -> f32
         return x;
     }
     let bits = f32::to_bits(x);
-    if bits % SIGN == 0 {
-        return x;
+    if (0 < bits) & (bits < INFINITY) {
+        return f32::from_bits(root_bits(bits, x as f64));
     }
     if SIGN < bits {
         return not_a_number();
     }
-    if INFINITY <= bits {
-        return x;
-    }
-    f32::from_bits(root_bits(bits, x as f64))
+    x
 }
 
 // A NaN's pattern can't be made of bits either: it is what 0 / 0 gives.
@@ -103,19 +101,24 @@ fn is_rounded(n: u64, near: u64) -> bool
 //
 // A pattern grows nearly as its number's logarithm does, so the pattern of 1 / root(wide) is about 0x5FE6_EB50_C7B5_37A9 less half of
 // wide's own. That half is bits * 0x1000_0000, and half of the difference of the two formats' biases, 448 * 2 ^ 52, which the constant
-// below has taken off already. So y0 is within 3.5 % of 1 / root(wide), and a step of Newton's, y * (1.5 - wide / 2 * y * y), leaves
-// 3 / 2 of the error's square: 0.18 %, 5e-6, 4e-11.
+// below has taken off already. So y is within 3.5 % of 1 / root(wide), and a step of Newton's, y * (1.5 - wide * y * y / 2), leaves
+// 3 / 2 of the error's square: 0.18 %, 5e-6, 4e-11. The steps are taken on s = wide * y and on h = y / 2 side by side, so that the
+// factor of a step is 1.5 - s * h, and each waits for three operations and not for four.
 //
-// wide * y3 comes near the root in binary64; that it is no NaN is not proved, so it is asked. Its pattern has 29 digits more than a
+// The last s comes near the root in binary64; that it is no NaN is not proved, so it is asked. Its pattern has 29 digits more than a
 // binary32 pattern, of which 28 are cut off and the one before them rounds: (pattern / 2 ^ 28 + 1) / 2. Its exponent is 896 more by the
 // biases, which is 896 * 2 ^ 23 or 0x1_C000_0000 in the pattern.
 fn near_pattern(bits: u32, wide: f64) -> u64 {
-    let half = 0.5 * wide;
-    let y0 = f64::from_bits(0x43E6_EB50_C7B5_37A9 - (bits as u64) * 0x1000_0000);
-    let y1 = y0 * (1.5 - half * y0 * y0);
-    let y2 = y1 * (1.5 - half * y1 * y1);
-    let y3 = y2 * (1.5 - half * y2 * y2);
-    let guess = wide * y3;
+    let y = f64::from_bits(0x43E6_EB50_C7B5_37A9 - (bits as u64) * 0x1000_0000);
+    let s0 = wide * y;
+    let h0 = 0.5 * y;
+    let r0 = 1.5 - s0 * h0;
+    let s1 = s0 * r0;
+    let h1 = h0 * r0;
+    let r1 = 1.5 - s1 * h1;
+    let s2 = s1 * r1;
+    let h2 = h1 * r1;
+    let guess = s2 * (1.5 - s2 * h2);
     if guess != guess {
         return 0;
     }

@@ -39,7 +39,7 @@ mul-start : tie.Need-mul-start Inv-loop μ-loop
 mul-start c = omega (arith, row-end _ _ _ _ (c .before .before .before .before .before .pre) (c .loop-test .taken))
 
 column-below-requires : tie.Need-column-below-requires Inv-loop μ-loop
-column-below-requires c κs = let l = row-end _ _ _ _ (c .before .before .before .before .before .pre) (c .loop-test .taken) in row-column _ _ _ (omega arith)
+column-below-requires c κs = let l = row-end _ _ _ _ (c .before .before .before .before .before .pre) (c .loop-test .taken) in (row-column _ _ _ (omega arith), omega arith)
 
 returns-2 : tie.Need-returns-2 Inv-loop μ-loop
 returns-2 c = sym (every-off _ _ _ _ (c .before .before .loop-test .taken) (sym (row-corners _ _ _ _ _ (c .before .before .before .before .before .before .before .pre) (c .before .before .loop-test .taken)) ∙ sym (c .before .column-below .ensures) ∙ not-true _ (c .if2 .taken)))

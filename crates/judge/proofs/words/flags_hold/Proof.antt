@@ -7,7 +7,7 @@ use Rattle.judge.proofs.words.flags_hold.Statement.{statement}
 use Rattle.judge.proofs.words.flags_hold.Tie as tie
 
 column-below-requires : tie.Need-column-below-requires
-column-below-requires c κs = rows-column _ _ _ _ (omega arith) (c .before .pre)
+column-below-requires c κs = (rows-column _ _ _ _ (omega arith) (c .before .pre), omega arith)
 
 returns : tie.Need-returns
 returns c = λ n positions. c .column-below .ensures ∙ flags-column (form n) positions _ _

@@ -1,4 +1,5 @@
 -- `judge::words::parities_hold` meets its contract. Assumes nothing.
+use native.Mathlib.Omega.{arith}
 use borrow.Author.Needs.{needs}
 use mathlib.Core.Path.{_∙_}
 use Rattle.judge.proofs.Every.{elements-column, parities-column}
@@ -9,7 +10,7 @@ add-column-below : tie.Need-add-column-below
 add-column-below c = search needs
 
 column-below-requires : tie.Need-column-below-requires
-column-below-requires c κs = elements-column _ _ _ (c .before .pre)
+column-below-requires c κs = (elements-column _ _ _ (c .before .pre), omega (arith, c .before .pre .few))
 
 returns : tie.Need-returns
 returns c = c .column-below .ensures ∙ parities-column _ _ _

@@ -19,7 +19,7 @@ sub-column-below : tie.Need-sub-column-below
 sub-column-below c = search needs
 
 column-below-requires : tie.Need-column-below-requires
-column-below-requires c κs = record { stands = λ i h. omega arith }
+column-below-requires c κs = (record { stands = λ i h. omega arith }, omega arith)
 
 returns-2 : tie.Need-returns-2
 returns-2 c = λ total h. c .column-below .ensures ∙ steps-parities _ _ _ total (omega arith) h

@@ -6,7 +6,7 @@ use Rattle.judge.proofs.words.steps_hold.Statement.{statement}
 use Rattle.judge.proofs.words.steps_hold.Tie as tie
 
 column-below-requires : tie.Need-column-below-requires
-column-below-requires c κs = rows-column _ _ _ _ (omega arith) (c .before .pre)
+column-below-requires c κs = (rows-column _ _ _ _ (omega arith) (c .before .pre), omega arith)
 
 returns : tie.Need-returns
 returns c = c .column-below .ensures ∙ steps-column _ _ _

@@ -5,8 +5,7 @@ use lib.Dec.{T}
 use lib.IntN.{ℤ}
 use lib.Ieee.{binary32, inFloat, ofBits, ofInt}
 use Rattle.numbers.specs.Binary32.{_⊖_, _⊗_, one, count}
-use Rattle.geom.proofs.Signs.{word-exact, word-sign}
-use Rattle.normals.proofs.Cast.{word-signed}
+use Rattle.normals.proofs.Cast.{word-signed, word-exact, word-sign}
 use Rattle.normals.proofs.sign.sign.Statement.{statement}
 use Rattle.normals.proofs.sign.sign.Tie as tie
 

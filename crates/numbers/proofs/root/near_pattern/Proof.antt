@@ -8,14 +8,14 @@ use Rattle.numbers.proofs.Patterns.{equal-to-itself, below-infinity, on
 use Rattle.numbers.proofs.root.near_pattern.Statement.{statement}
 use Rattle.numbers.proofs.root.near_pattern.Tie as tie
 
-mul-y0 : tie.Need-mul-y0
-mul-y0 c = search needs
+mul-y : tie.Need-mul-y
+mul-y c = search needs
 
-sub-y0 : tie.Need-sub-y0
-sub-y0 c = search needs
+sub-y : tie.Need-sub-y
+sub-y c = search needs
 
-float-from-bits-y0 : tie.Need-float-from-bits-y0
-float-from-bits-y0 c = below-infinity binary64 _ (omega arith)
+float-from-bits-y : tie.Need-float-from-bits-y
+float-from-bits-y c = below-infinity binary64 _ (omega arith)
 
 returns : tie.Need-returns
 returns c = search needs
@@ -36,9 +36,9 @@ pub near-pattern-spec : {M : Type 1} → statement M
 near-pattern-spec =
     tie.close
     (tie.spec
-    mul-y0
-    sub-y0
-    float-from-bits-y0
+    mul-y
+    sub-y
+    float-from-bits-y
     returns
     float-to-bits-wrapping-sub-u64
     add-wrapping-sub-u64

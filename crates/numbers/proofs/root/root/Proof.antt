@@ -10,7 +10,7 @@ use lib.Ieee.Bits.{ofBits-fits, ofBits-toBits, toBits-lt}
 use lib.Ieee.Compare.{differs-from-itself}
 use Rattle.numbers.specs.Root.{root}
 use Rattle.numbers.proofs.Patterns.{equal-to-itself, widens, below-infinity}
-use Rattle.numbers.proofs.RootOf.{root-of-nan, root-of-zero, root-of-top, root-of-negative, root-fits}
+use Rattle.numbers.proofs.RootOf.{root-of-nan, root-of-own, root-of-negative, above-zero, root-fits}
 use Rattle.numbers.proofs.root.root.Statement.{statement}
 use Rattle.numbers.proofs.root.root.Tie as tie
 
@@ -30,8 +30,23 @@ returns c = sym (root-of-nan _ (differs-from-itself _ (subst T (sym (c .if1 .tak
 float-to-bits-bits : tie.Need-float-to-bits-bits
 float-to-bits-bits c = equal-to-itself _ (c .if1 .left)
 
+float-to-float-root-bits : tie.Need-float-to-float-root-bits
+float-to-float-root-bits c =
+    let numeric = c .before .before in
+    widens _ (held (numeric .before)) (numeric .if1 .left)
+
+root-bits-requires : tie.Need-root-bits-requires
+root-bits-requires c κs = above-zero _ (c .before .if2 .taken)
+
+float-from-bits-result : tie.Need-float-from-bits-result
+float-from-bits-result c = below-infinity binary32 _ (c .root-bits .ensures .1)
+
 returns-2 : tie.Need-returns-2
-returns-2 c = sym (subst (λ (v : Float). root v ≡ v) (own (c .before .before)) (root-of-zero _ (c .if2 .taken)))
+returns-2 c =
+    let start = c .before .before .before .before in
+    ap (ofBits binary32) (c .root-bits .ensures .0)
+    ∙ ofBits-toBits binary32 _ (root-fits _ (ofBits-fits binary32 _))
+    ∙ ap root (own start)
 
 not-a-number-requires : tie.Need-not-a-number-requires
 not-a-number-requires c κs = search needs
@@ -43,26 +58,8 @@ returns-3 c =
 
 returns-4 : tie.Need-returns-4
 returns-4 c =
-    let start = c .before .before .before .before in
-    sym (subst (λ (v : Float). root v ≡ v) (own start) (root-of-top _ (c .if4 .taken) (omega (arith, c .before .if3 .left, c .before .before .if2 .left))))
-
-float-to-float-root-bits : tie.Need-float-to-float-root-bits
-float-to-float-root-bits c =
-    let numeric = c .before .before .before .before in
-    widens _ (held (numeric .before)) (numeric .if1 .left)
-
-root-bits-requires : tie.Need-root-bits-requires
-root-bits-requires c κs = search needs
-
-float-from-bits-result : tie.Need-float-from-bits-result
-float-from-bits-result c = below-infinity binary32 _ (c .root-bits .ensures .1)
-
-returns-5 : tie.Need-returns-5
-returns-5 c =
-    let start = c .before .before .before .before .before .before in
-    ap (ofBits binary32) (c .root-bits .ensures .0)
-    ∙ ofBits-toBits binary32 _ (root-fits _ (ofBits-fits binary32 _))
-    ∙ ap root (own start)
+    let start = c .before .before .before in
+    sym (subst (λ (v : Float). root v ≡ v) (own start) (root-of-own _ (c .before .if2 .left) (omega (arith, c .if3 .left))))
 
 pub root-spec : {M : Type 1} → statement M
 root-spec =
@@ -70,11 +67,10 @@ root-spec =
     (tie.spec
     returns
     float-to-bits-bits
-    returns-2
-    not-a-number-requires
-    returns-3
-    returns-4
     float-to-float-root-bits
     root-bits-requires
     float-from-bits-result
-    returns-5)
+    returns-2
+    not-a-number-requires
+    returns-3
+    returns-4)
