@@ -1,5 +1,7 @@
 // What other languages link: the entries of the engine, and the square root and normalising, section 1 of document 01. The static library defines each
 // function under its own name, which begins with the crate's. None has a `requires`: every input is answered.
+#![tactic(auto)]
+
 pub mod opening;
 pub mod places;
 pub mod refinement;

@@ -1,4 +1,6 @@
 // Document 01, section 2: the midpoint book, over cells that the host lends: an index of the pairs, whose entry e is the vertex base + e.
+#![tactic(auto)]
+
 ghost use Rattle.std.specs.Prelude.{◌≡◌};
 ghost use Rattle.geom.specs.Book.{simplices, pair};
 ghost use Rattle.geom.specs.Kinds.{kind_of};
@@ -8,7 +10,7 @@ use geom::kind::Kind;
 use index::Found;
 
 // What asking for a midpoint ends with: its vertex and the number of entries afterwards, or that there is no room for a new entry.
-#[derive(Drop)]
+#[derive(Clone, Copy)]
 pub enum Asked {
     Vertex { vertex: u32, made: usize },
     Full,

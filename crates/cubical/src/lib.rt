@@ -1,5 +1,7 @@
 // Document 01, section 4: squares and cubes. Places count the corners first, then the midpoints in the order in which they are made.
 // The tables are the Rust's, row for row; a row of a table of pieces ends with a 0: no piece is flipped.
+#![tactic(auto)]
+
 ghost use Rattle.std.specs.Prelude.{◌≡◌, suc, ◌*◌, ◌≤◌, length, [], ◌∷◌, map};
 ghost use Rattle.geom.specs.Book.{each};
 ghost use Rattle.geom.specs.Elements.{flat};

@@ -1,4 +1,6 @@
 // The desk of the program `sheet`: 1,024 cells for each list of the file's kind, and for the book.
+#![tactic(auto)]
+
 ghost use Rattle.std.specs.Prelude.{◌≡◌, suc, ◌*◌, length};
 ghost use Rattle.geom.specs.Kinds.{kind_of};
 ghost use Rattle.geom.specs.Memory.{area_corners, volume_corners};

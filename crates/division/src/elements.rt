@@ -20,14 +20,14 @@ use geom::parity::Parity;
 use geom::words::{parity_of, word_of};
 
 // What the midpoints of an element's edges end with: the book's entries so far, or that there is no room for one more.
-#[derive(Drop)]
+#[derive(Clone, Copy)]
 pub enum Grown {
     Entries(usize),
     Full,
 }
 
 // What writing pieces ends with: the rows so far, or that there is no cell for one more.
-#[derive(Drop)]
+#[derive(Clone, Copy)]
 pub enum Filled {
     Rows(usize),
     Full,

@@ -1,5 +1,7 @@
 // Document 01, section 8: the file. It is judged whole, field by field, before a cell is written; then its lists are written to the first bench.
 // Any bytes, any slices of any lengths.
+#![tactic(auto)]
+
 ghost use Rattle.std.specs.Prelude.{◌≡◌};
 ghost use Rattle.geom.specs.Answers.{opening_of, no_mesh, mesh_of_kind};
 ghost use Rattle.geom.specs.Kinds.{kind_of};

@@ -2,7 +2,7 @@
 
 // How many entries each list has. A count bounds the loops over lent slices and is held against their lengths, which are usize, so a
 // count is one too and is never cast there; a caller may state any number.
-#[derive(Drop)]
+#[derive(Clone, Copy)]
 pub struct Sizes {
     pub vertices: usize,
     pub points: usize,
@@ -14,14 +14,14 @@ pub struct Sizes {
 }
 
 // How the work ended: finished, or refused with its number.
-#[derive(Drop)]
+#[derive(Clone, Copy)]
 pub enum Ended {
     Finished,
     Refused(u8),
 }
 
 // A refinement's answer: passes, sizes and how it ended.
-#[derive(Drop)]
+#[derive(Clone, Copy)]
 pub struct Refined {
     pub passes: u8,
     pub sizes: Sizes,
@@ -29,14 +29,14 @@ pub struct Refined {
 }
 
 // The answer of triangulation: the sizes of the mesh that the caller has afterwards, and how it ended.
-#[derive(Drop)]
+#[derive(Clone, Copy)]
 pub struct Answer {
     pub sizes: Sizes,
     pub ended: Ended,
 }
 
 // How reading a file ended: with a mesh of a kind, or refused with its number.
-#[derive(Drop)]
+#[derive(Clone, Copy)]
 pub enum Opened {
     Cubes,
     Simplices,
@@ -44,7 +44,7 @@ pub enum Opened {
 }
 
 // The answer of reading: the sizes of the mesh that was read, all 0 after a refusal, and how it ended.
-#[derive(Drop)]
+#[derive(Clone, Copy)]
 pub struct Reading {
     pub sizes: Sizes,
     pub opened: Opened,

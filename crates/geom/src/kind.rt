@@ -1,5 +1,5 @@
 // Document 01: the two kinds of mesh.
-#[derive(Drop)]
+#[derive(Clone, Copy)]
 pub enum Kind {
     Cubes,
     Simplices,

@@ -2,7 +2,7 @@
 ghost use Rattle.std.specs.Prelude.{◌≡◌};
 ghost use Rattle.geom.specs.Parity.{flipped, times};
 
-#[derive(Drop)]
+#[derive(Clone, Copy)]
 pub enum Parity {
     Even,
     Odd,

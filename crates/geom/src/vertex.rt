@@ -2,7 +2,7 @@
 // both go through functions by value.
 use numbers::vec4::Vec4;
 
-#[derive(Drop)]
+#[derive(Clone, Copy)]
 pub struct Vertex {
     pub position: Vec4,
     // Bit i is axis i; none of the higher bits is set in an accepted mesh.

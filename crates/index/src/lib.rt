@@ -2,6 +2,8 @@
 // [a, b, left, right]; behind the rows each bucket has [root, recent]. A key's bits lead from the root to its entry, so a search passes no more than
 // 64 entries of other keys, whatever the keys are. Nothing is cleared at the start: a new entry writes its row, a root is believed only where it
 // is below `made` and its key falls in that bucket, and a recent entry, looked at first, only where its key is the one asked for.
+#![tactic(auto)]
+
 ghost use Rattle.std.specs.Prelude.{◌≡◌, ◌&&◌, [], ◌∷◌, ◌+◌, ◌*◌, ◌≤◌, ◌<◌, min, eqb, length};
 ghost use Rattle.index.specs.Cells.{pairs, word_at, cells};
 ghost use Rattle.index.specs.Trees.{Linked};
@@ -15,7 +17,7 @@ pub const CELL: usize = 6;
 const NONE: usize = 0xFFFF_FFFF;
 
 // What a search ends with: the entry that it found, or none and the word from which a new entry hangs.
-#[derive(Drop)]
+#[derive(Clone, Copy)]
 pub enum Found {
     At(usize),
     Nowhere(usize),

@@ -9,7 +9,7 @@ use geom::answer::Sizes;
 use geom::kind::Kind;
 
 // How long the slices of a bench are.
-#[derive(Drop)]
+#[derive(Clone, Copy)]
 pub struct Lengths {
     pub positions: usize,
     pub marks: usize,

@@ -1,4 +1,6 @@
 // Document 01, 'Who can cause which refusal': the judge of a mesh in memory. Nothing is written.
+#![tactic(auto)]
+
 pub mod counts;
 pub mod mesh;
 pub mod words;

@@ -1,5 +1,7 @@
 // Document 01, 'Who can cause which refusal': lists sit on two benches, and the caller is handed the entries on the bench that the last
 // whole pass wrote. Each function hands back a part of one list's two slices, and never more than there is; or says as numbers where it stands.
+#![tactic(auto)]
+
 ghost use Rattle.std.specs.Prelude.{◌≡◌, ◌%◌, eqb, take};
 ghost use Rattle.geom.specs.Refusals.{side as side_of};
 ghost use Rattle.left.specs.Place.{Placed};

@@ -8,6 +8,8 @@
 // - "1,048,576 entries in each list": so many are accepted, and P1 says of depth 0: no pass, the mesh unchanged;
 // - "10 for the lists handed in", "at depth 0 too": one more is refused before any pass is begun;
 // - "9, 5, 6, 7, 8, then 10 for the lists handed in": a curve without vertices beside it is 8, which comes first.
+#![tactic(auto)]
+
 ghost use Rattle.std.specs.Prelude.{◌≡◌, length};
 
 use geom::answer::{Ended, Refined, Sizes};

@@ -1,4 +1,6 @@
 // Document 01, section 8: the listing of a mesh in memory and the line of a refusal, as bytes in a lent buffer.
+#![tactic(auto)]
+
 pub mod digits;
 pub mod lines;
 

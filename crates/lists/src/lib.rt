@@ -1,4 +1,6 @@
 // Document 01, sections 3 and 4: the lists of a pass, read on one bench and written on the other, with one book through all.
+#![tactic(auto)]
+
 ghost use Rattle.std.specs.Prelude.{◌≡◌, map, suc, ◌*◌, ◌≤◌, length};
 ghost use Rattle.geom.specs.Book.{each};
 ghost use Rattle.geom.specs.Kinds.{kind_of};
@@ -17,7 +19,7 @@ use geom::kind::Kind;
 use simplicial::{tetrahedra, triangles};
 
 // What a pass ends with: the sizes and the book's entries afterwards, or that something did not fit.
-#[derive(Drop)]
+#[derive(Clone, Copy)]
 pub enum Stage {
     Whole { sizes: Sizes, made: usize },
     Full,

@@ -1,4 +1,6 @@
 // A file is read onto the program's desk, and the mesh there refined and listed.
+#![tactic(auto)]
+
 ghost use Rattle.std.specs.Prelude.{◌≡◌};
 ghost use Rattle.geom.specs.Book as Book;
 ghost use Rattle.geom.specs.File.{figure};
@@ -20,7 +22,7 @@ use listing::refusal;
 use printing::refined;
 
 // What a file was found to be: a mesh of a kind, or refused with its number. Both kinds go on alike.
-#[derive(Drop)]
+#[derive(Clone, Copy)]
 pub enum Found {
     Mesh(Kind),
     Refused(u8),

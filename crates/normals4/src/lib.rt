@@ -1,5 +1,7 @@
 // Document 01, section 7: the normals of a simplex mesh in memory in four dimensions, from its tetrahedra. Any words in any slices of any lengths, any
 // sizes.
+#![tactic(auto)]
+
 ghost use Rattle.geom.specs.Answers.{verdict_of};
 ghost use Rattle.geom.specs.Turning.{four, Shades};
 ghost use Rattle.judge.specs.Judged.{bench};

@@ -6,13 +6,13 @@ use crate::root::root;
 use crate::vec3::Vec3;
 use crate::vec4::Vec4;
 
-#[derive(Drop)]
+#[derive(Clone, Copy)]
 pub enum Normal3 {
     Direction(f32, f32, f32),
     Flat,
 }
 
-#[derive(Drop)]
+#[derive(Clone, Copy)]
 pub enum Normal4 {
     Direction(f32, f32, f32, f32),
     Flat,

@@ -2,7 +2,7 @@
 ghost use Rattle.std.specs.Prelude.{◌≡◌, [], ◌∷◌};
 ghost use Rattle.numbers.specs.Points4 as Points4;
 
-#[derive(Drop)]
+#[derive(Clone, Copy)]
 pub struct Vec4 {
     pub x: f32,
     pub y: f32,

@@ -1,4 +1,6 @@
 // Document 01, section 8: from the bytes of standard input to the bytes that are printed, as one function.
+#![tactic(auto)]
+
 ghost use Rattle.std.specs.Prelude.{◌≡◌, length};
 ghost use Rattle.geom.specs.Sheet.{sheet as sheet_of};
 ghost use Rattle.page.specs.Page.{Into, Written, Answered};

@@ -1,4 +1,6 @@
 // Document 01, sections 3 and 4: one pass of the refinement in memory. It reads the eight slices of one bench and writes those of the other.
+#![tactic(auto)]
+
 ghost use Rattle.geom.specs.Kinds.{kind_of};
 ghost use Rattle.geom.specs.Refinement.{pass_over};
 ghost use Rattle.judge.specs.Judged.{bench};

@@ -1,4 +1,6 @@
 // A mesh on the program's desk is refined and listed.
+#![tactic(auto)]
+
 ghost use Rattle.std.specs.Prelude.{◌≡◌, true, List, ℕ, eqb};
 ghost use Rattle.geom.specs.Kinds.{kind_of};
 ghost use Rattle.geom.specs.Memory.{rows_of, mesh_of};

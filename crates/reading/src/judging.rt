@@ -14,7 +14,7 @@ use geom::kind::Kind;
 use judge::counts::Lengths;
 
 // What a file is found to be: a mesh of a kind, with the sizes of its lists, or refused with the number.
-#[derive(Drop)]
+#[derive(Clone, Copy)]
 pub enum Found {
     Mesh { kind: Kind, sizes: Sizes },
     Refused(u8),

@@ -1,4 +1,6 @@
 // Document 01, section 8: the reader that is set up over one file and walks it, and what the file is found to be. Nothing is written.
+#![tactic(auto)]
+
 pub mod judging;
 pub mod part;
 pub mod reader;

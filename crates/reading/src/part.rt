@@ -10,7 +10,7 @@ use judge::counts::{area_corners, volume_corners};
 
 // What is read next: a byte of the header, a list with its count first, or that nothing is left over. A list comes with its lent cells and with the
 // number of vertices; curves with the lent cells of their vertices too.
-#[derive(Drop)]
+#[derive(Clone, Copy)]
 pub enum Part {
     Byte,
     Vertices {
@@ -44,7 +44,7 @@ pub enum Part {
 
 // What a part came to: its value or refusal, its number of entries (0 after a refusal), and the place behind it. The value is that number too, but of
 // curves it is the number of their vertices.
-#[derive(Drop)]
+#[derive(Clone, Copy)]
 pub struct Taken {
     pub field: Field,
     pub n: usize,

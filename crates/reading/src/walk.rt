@@ -11,14 +11,14 @@ use geom::kind::Kind;
 use judge::counts::{Lengths, cells};
 
 // What the lists are judged against: the kind, and the lent cells of that kind.
-#[derive(Drop)]
+#[derive(Clone, Copy)]
 pub struct Lent {
     pub kind: Kind,
     pub cells: Sizes,
 }
 
 // What each part of a file came to.
-#[derive(Drop)]
+#[derive(Clone, Copy)]
 pub struct Walked {
     pub version: Taken,
     pub kind: Taken,

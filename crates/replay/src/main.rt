@@ -3,6 +3,8 @@
 //
 // A record is five bytes (the length of its name, depth, smooth_time, and the length of the file, high byte first), the name, and a file of
 // document 01's section 8. Each is read, refined, cut into simplices if it has cubes, and given normals.
+#![tactic(auto)]
+
 mod desk;
 mod mesh;
 mod print;

@@ -12,14 +12,14 @@ pub const FIELD: u32 = 0x0080_0000;
 pub const INFINITY: u32 = 0x7F80_0000;
 
 // What the root of a pattern's number is.
-#[derive(Drop)]
+#[derive(Clone, Copy)]
 pub enum Answer {
     Bits(u32),
     NotANumber,
 }
 
 // Which kind of number a pattern stands for, and whether its root is right. A NaN can't be made of its pattern.
-#[derive(Drop)]
+#[derive(Clone, Copy)]
 pub enum Verdict {
     Above(bool),
     Below(bool),

@@ -12,6 +12,8 @@
 //         return 'below' if p > 2**31 else 'above'
 //     print(len(walked), Counter(map(kind, walked)))"
 // - none is wrong, since IEEE 754 asks that of every root.
+#![tactic(auto)]
+
 mod judge;
 mod replay;
 mod row;

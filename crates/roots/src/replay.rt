@@ -5,7 +5,7 @@ use crate::judge::{Answer, INFINITY, SIGN, root_at};
 use crate::row::{Row, line_end, row_of};
 
 // The rows, how many of them agree, and where the first line starts that does not.
-#[derive(Drop)]
+#[derive(Clone, Copy)]
 pub struct Tally {
     pub rows: u64,
     pub agree: u64,

@@ -3,14 +3,14 @@ ghost use Rattle.std.specs.Prelude.{◌+◌, ◌≤◌, length};
 
 const LINE_END: u8 = 10;
 
-#[derive(Drop)]
+#[derive(Clone, Copy)]
 pub enum Row {
     Remark,
     Pair(u32, u32),
     Broken,
 }
 
-#[derive(Drop)]
+#[derive(Clone, Copy)]
 enum Word {
     Bits(u32),
     Broken,

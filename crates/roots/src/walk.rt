@@ -10,7 +10,7 @@ const STEP: u32 = 0x9E37_79B1;
 const STEPS: u32 = 100_000;
 
 // The patterns visited, by kind; how many roots were wrong, and the first pattern whose root was.
-#[derive(Drop)]
+#[derive(Clone, Copy)]
 pub struct Walk {
     pub above: u64,
     pub below: u64,

@@ -1,4 +1,6 @@
 // Document 01, sections 3 and 4: passes to the depth, or to the first that doesn't fit; from the first bench to the second and back.
+#![tactic(auto)]
+
 ghost use Rattle.std.specs.Prelude.{◌≡◌};
 ghost use Rattle.geom.specs.Answers.{told, accepted, refused};
 ghost use Rattle.geom.specs.Kinds.{kind_of};

@@ -1,4 +1,6 @@
 // Document 01, section 8: the program `sheet`. It reads standard input, has its text worked out, and writes it; nothing else is done here.
+#![tactic(auto)]
+
 use libc::{STDIN_FILENO, STDOUT_FILENO};
 
 fn main() {

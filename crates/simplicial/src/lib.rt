@@ -1,4 +1,6 @@
 // Document 01, section 3: triangles and tetrahedra. Places count the corners first, then the midpoints in the order in which they are made.
+#![tactic(auto)]
+
 ghost use Rattle.std.specs.Prelude.{◌*◌, ◌≤◌, length, map};
 ghost use Rattle.geom.specs.Book.{each};
 ghost use Rattle.geom.specs.Simplices.{triangle, tetrahedron};

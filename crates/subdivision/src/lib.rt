@@ -1,5 +1,7 @@
 // Document 01, sections 3 to 5: the refinement of a mesh of either kind in memory, at any depth. Any words in any slices of any lengths, any sizes,
 // any bytes.
+#![tactic(auto)]
+
 ghost use Rattle.std.specs.Prelude.{◌≡◌, ◌-◌, min};
 ghost use Rattle.geom.specs.Answers.{told};
 ghost use Rattle.geom.specs.Kinds.{kind_of};

@@ -1,5 +1,7 @@
 // Document 01, section 6: cubes in memory cut into simplices. Any words in any slices of any lengths, any sizes. Vertices, points, lines and
 // curves stay where they are; triangles and tetrahedra go into lists lent for them.
+#![tactic(auto)]
+
 pub mod cutting;
 pub mod simplices;
 

@@ -10,7 +10,7 @@ use geom::words::word;
 use numbers::vec4::{Vec4, columns, mean2, mean3, mean4};
 
 // Simplices: the mean of the corners of a segment, a triangle, a tetrahedron. Cubes: the column rule of a line, a square, a cube.
-#[derive(Drop)]
+#[derive(Clone, Copy)]
 pub enum Rule {
     Segment,
     Triangle,
