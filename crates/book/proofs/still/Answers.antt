@@ -1,0 +1,10 @@
+-- `book::still` meets its contract. Assumes nothing.
+use mathlib.Core.Path.{refl}
+use borrow.Author.Rules.{rules}
+use Rattle.book.proofs.still.Goals as goal
+
+pub returns-in-Cubes : goal.returns-in-Cubes
+returns-in-Cubes c = rw c.in-Cubes.is refl
+
+pub returns-in-Simplices : goal.returns-in-Simplices
+returns-in-Simplices c = rw c.in-Simplices.is refl

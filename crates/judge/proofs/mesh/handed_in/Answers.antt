@@ -1,0 +1,62 @@
+-- `judge::mesh::handed_in` meets its contract: the tests are made in the order of the refusals, and what passed leaves room for what comes next.
+-- Assumes nothing.
+use Rattle.geom.specs.Forms.{floats}
+use borrow.Author.Rules.{rules}
+use mathlib.Core.Path.{◌≡◌, refl, sym, ◌∙◌}
+use mathlib.Core.Bool.{true}
+use borrow.Author.Tests.{not-true, not-false}
+use Rattle.geom.specs.Answers.{verdict_of}
+use Rattle.geom.specs.Memory.{Bench, Rows, rows_of}
+use Rattle.geom.specs.Refusals.{every, good_curve, counts_hold, marks_hold, positions_hold, numbers_hold}
+use Rattle.geom.specs.Kinds.{kind_of}
+use Rattle.judge.specs.Judged.{bench}
+use Rattle.judge.proofs.Verdicts.{counts_positions, counts_curves, counts_marked, counts_numbered, due_counts, due_benches, due_marks, due_time, due_positions, due_numbers, due_curves, due_limits, due_none}
+use Rattle.judge.proofs.mesh.handed_in.Goals as goal
+
+pub returns-then-not-counts_hold : goal.returns-then-not-counts_hold
+unfolding verdict_of
+returns-then-not-counts_hold c = due_counts (kind_of c.args.kind) c.args.sizes (bench c.args.positions.now c.args.marks.now c.args.points.now c.args.lines.now c.args.areas.now c.args.volumes.now c.args.curves.now c.args.steps.now) c.args.nine c.args.five (sym (c.counts_hold.ensures floats (bench c.args.positions.now c.args.marks.now c.args.points.now c.args.lines.now c.args.areas.now c.args.volumes.now c.args.curves.now c.args.steps.now) refl refl) ∙ not-true _ c.if-not-counts_hold.true-raw)
+
+pub returns-then-not-nine : goal.returns-then-not-nine
+unfolding verdict_of
+returns-then-not-nine c = due_benches (kind_of c.args.kind) c.args.sizes (bench c.args.positions.now c.args.marks.now c.args.points.now c.args.lines.now c.args.areas.now c.args.volumes.now c.args.curves.now c.args.steps.now) c.args.nine c.args.five (sym (c.counts_hold.ensures floats (bench c.args.positions.now c.args.marks.now c.args.points.now c.args.lines.now c.args.areas.now c.args.volumes.now c.args.curves.now c.args.steps.now) refl refl) ∙ not-false _ c.if-not-counts_hold.false-raw) (not-true _ c.if-not-nine.true-raw)
+
+pub marks_hold-requires : goal.marks_hold-requires
+marks_hold-requires c = counts_marked (kind_of c.args.kind) c.args.sizes (bench c.args.positions.now c.args.marks.now c.args.points.now c.args.lines.now c.args.areas.now c.args.volumes.now c.args.curves.now c.args.steps.now) (sym (c.counts_hold.ensures floats (bench c.args.positions.now c.args.marks.now c.args.points.now c.args.lines.now c.args.areas.now c.args.volumes.now c.args.curves.now c.args.steps.now) refl refl) ∙ not-false _ c.if-not-counts_hold.false-raw)
+
+pub returns-then-not-marks_hold : goal.returns-then-not-marks_hold
+unfolding verdict_of
+returns-then-not-marks_hold c = due_marks (kind_of c.args.kind) c.args.sizes (bench c.args.positions.now c.args.marks.now c.args.points.now c.args.lines.now c.args.areas.now c.args.volumes.now c.args.curves.now c.args.steps.now) c.args.nine c.args.five (sym (c.counts_hold.ensures floats (bench c.args.positions.now c.args.marks.now c.args.points.now c.args.lines.now c.args.areas.now c.args.volumes.now c.args.curves.now c.args.steps.now) refl refl) ∙ not-false _ c.if-not-counts_hold.false-raw) (not-false _ c.if-not-nine.false-raw) (sym (c.marks_hold.ensures floats c.args.positions.now c.args.points.now) ∙ not-true _ c.if-not-marks_hold.true-raw)
+
+pub returns-then-not-five : goal.returns-then-not-five
+unfolding verdict_of
+returns-then-not-five c = due_time (kind_of c.args.kind) c.args.sizes (bench c.args.positions.now c.args.marks.now c.args.points.now c.args.lines.now c.args.areas.now c.args.volumes.now c.args.curves.now c.args.steps.now) c.args.nine c.args.five (sym (c.counts_hold.ensures floats (bench c.args.positions.now c.args.marks.now c.args.points.now c.args.lines.now c.args.areas.now c.args.volumes.now c.args.curves.now c.args.steps.now) refl refl) ∙ not-false _ c.if-not-counts_hold.false-raw) (not-false _ c.if-not-nine.false-raw) (sym (c.marks_hold.ensures floats c.args.positions.now c.args.points.now) ∙ not-false _ c.if-not-marks_hold.false-raw) (not-true _ c.if-not-five.true-raw)
+
+pub positions_hold-requires : goal.positions_hold-requires
+positions_hold-requires c = counts_positions (kind_of c.args.kind) c.args.sizes (bench c.args.positions.now c.args.marks.now c.args.points.now c.args.lines.now c.args.areas.now c.args.volumes.now c.args.curves.now c.args.steps.now) (sym (c.counts_hold.ensures floats (bench c.args.positions.now c.args.marks.now c.args.points.now c.args.lines.now c.args.areas.now c.args.volumes.now c.args.curves.now c.args.steps.now) refl refl) ∙ not-false _ c.if-not-counts_hold.false-raw)
+
+pub returns-then-not-positions_hold : goal.returns-then-not-positions_hold
+unfolding positions_hold rows_of verdict_of
+returns-then-not-positions_hold c = due_positions (kind_of c.args.kind) c.args.sizes (bench c.args.positions.now c.args.marks.now c.args.points.now c.args.lines.now c.args.areas.now c.args.volumes.now c.args.curves.now c.args.steps.now) c.args.nine c.args.five (sym (c.counts_hold.ensures floats (bench c.args.positions.now c.args.marks.now c.args.points.now c.args.lines.now c.args.areas.now c.args.volumes.now c.args.curves.now c.args.steps.now) refl refl) ∙ not-false _ c.if-not-counts_hold.false-raw) (not-false _ c.if-not-nine.false-raw) (sym (c.marks_hold.ensures floats c.args.positions.now c.args.points.now) ∙ not-false _ c.if-not-marks_hold.false-raw) (not-false _ c.if-not-five.false-raw) (sym (c.positions_hold.ensures c.args.marks.now) ∙ not-true _ c.if-not-positions_hold.true-raw)
+
+pub numbers_hold-requires : goal.numbers_hold-requires
+numbers_hold-requires c = counts_numbered (kind_of c.args.kind) c.args.sizes (bench c.args.positions.now c.args.marks.now c.args.points.now c.args.lines.now c.args.areas.now c.args.volumes.now c.args.curves.now c.args.steps.now) (sym (c.counts_hold.ensures floats (bench c.args.positions.now c.args.marks.now c.args.points.now c.args.lines.now c.args.areas.now c.args.volumes.now c.args.curves.now c.args.steps.now) refl refl) ∙ not-false _ c.if-not-counts_hold.false-raw)
+
+pub returns-then-not-numbers_hold : goal.returns-then-not-numbers_hold
+unfolding positions_hold rows_of verdict_of
+returns-then-not-numbers_hold c = due_numbers (kind_of c.args.kind) c.args.sizes (bench c.args.positions.now c.args.marks.now c.args.points.now c.args.lines.now c.args.areas.now c.args.volumes.now c.args.curves.now c.args.steps.now) c.args.nine c.args.five (sym (c.counts_hold.ensures floats (bench c.args.positions.now c.args.marks.now c.args.points.now c.args.lines.now c.args.areas.now c.args.volumes.now c.args.curves.now c.args.steps.now) refl refl) ∙ not-false _ c.if-not-counts_hold.false-raw) (not-false _ c.if-not-nine.false-raw) (sym (c.marks_hold.ensures floats c.args.positions.now c.args.points.now) ∙ not-false _ c.if-not-marks_hold.false-raw) (not-false _ c.if-not-five.false-raw) (sym (c.positions_hold.ensures c.args.marks.now) ∙ not-false _ c.if-not-positions_hold.false-raw) (sym (c.numbers_hold.ensures floats c.args.positions.now c.args.marks.now c.args.curves.now) ∙ not-true _ c.if-not-numbers_hold.true-raw)
+
+pub curves_hold-requires : goal.curves_hold-requires
+curves_hold-requires c = counts_curves (kind_of c.args.kind) c.args.sizes (bench c.args.positions.now c.args.marks.now c.args.points.now c.args.lines.now c.args.areas.now c.args.volumes.now c.args.curves.now c.args.steps.now) (sym (c.counts_hold.ensures floats (bench c.args.positions.now c.args.marks.now c.args.points.now c.args.lines.now c.args.areas.now c.args.volumes.now c.args.curves.now c.args.steps.now) refl refl) ∙ not-false _ c.if-not-counts_hold.false-raw)
+
+pub returns-then-not-curves_hold : goal.returns-then-not-curves_hold
+unfolding positions_hold rows_of verdict_of
+returns-then-not-curves_hold c = due_curves (kind_of c.args.kind) c.args.sizes (bench c.args.positions.now c.args.marks.now c.args.points.now c.args.lines.now c.args.areas.now c.args.volumes.now c.args.curves.now c.args.steps.now) c.args.nine c.args.five (sym (c.counts_hold.ensures floats (bench c.args.positions.now c.args.marks.now c.args.points.now c.args.lines.now c.args.areas.now c.args.volumes.now c.args.curves.now c.args.steps.now) refl refl) ∙ not-false _ c.if-not-counts_hold.false-raw) (not-false _ c.if-not-nine.false-raw) (sym (c.marks_hold.ensures floats c.args.positions.now c.args.points.now) ∙ not-false _ c.if-not-marks_hold.false-raw) (not-false _ c.if-not-five.false-raw) (sym (c.positions_hold.ensures c.args.marks.now) ∙ not-false _ c.if-not-positions_hold.false-raw) (sym (c.numbers_hold.ensures floats c.args.positions.now c.args.marks.now c.args.curves.now) ∙ not-false _ c.if-not-numbers_hold.false-raw) (sym c.curves_hold.ensures ∙ not-true _ c.if-not-curves_hold.true-raw)
+
+pub returns-then-not-limits_hold : goal.returns-then-not-limits_hold
+unfolding positions_hold rows_of verdict_of
+returns-then-not-limits_hold c = due_limits (kind_of c.args.kind) c.args.sizes (bench c.args.positions.now c.args.marks.now c.args.points.now c.args.lines.now c.args.areas.now c.args.volumes.now c.args.curves.now c.args.steps.now) c.args.nine c.args.five (sym (c.counts_hold.ensures floats (bench c.args.positions.now c.args.marks.now c.args.points.now c.args.lines.now c.args.areas.now c.args.volumes.now c.args.curves.now c.args.steps.now) refl refl) ∙ not-false _ c.if-not-counts_hold.false-raw) (not-false _ c.if-not-nine.false-raw) (sym (c.marks_hold.ensures floats c.args.positions.now c.args.points.now) ∙ not-false _ c.if-not-marks_hold.false-raw) (not-false _ c.if-not-five.false-raw) (sym (c.positions_hold.ensures c.args.marks.now) ∙ not-false _ c.if-not-positions_hold.false-raw) (sym (c.numbers_hold.ensures floats c.args.positions.now c.args.marks.now c.args.curves.now) ∙ not-false _ c.if-not-numbers_hold.false-raw) (sym c.curves_hold.ensures ∙ not-false _ c.if-not-curves_hold.false-raw) (sym c.limits_hold.ensures ∙ not-true _ c.if-not-limits_hold.true-raw)
+
+pub returns : goal.returns
+unfolding positions_hold rows_of verdict_of
+returns c = due_none (kind_of c.args.kind) c.args.sizes (bench c.args.positions.now c.args.marks.now c.args.points.now c.args.lines.now c.args.areas.now c.args.volumes.now c.args.curves.now c.args.steps.now) c.args.nine c.args.five (sym (c.counts_hold.ensures floats (bench c.args.positions.now c.args.marks.now c.args.points.now c.args.lines.now c.args.areas.now c.args.volumes.now c.args.curves.now c.args.steps.now) refl refl) ∙ not-false _ c.if-not-counts_hold.false-raw) (not-false _ c.if-not-nine.false-raw) (sym (c.marks_hold.ensures floats c.args.positions.now c.args.points.now) ∙ not-false _ c.if-not-marks_hold.false-raw) (not-false _ c.if-not-five.false-raw) (sym (c.positions_hold.ensures c.args.marks.now) ∙ not-false _ c.if-not-positions_hold.false-raw) (sym (c.numbers_hold.ensures floats c.args.positions.now c.args.marks.now c.args.curves.now) ∙ not-false _ c.if-not-numbers_hold.false-raw) (sym c.curves_hold.ensures ∙ not-false _ c.if-not-curves_hold.false-raw) (sym c.limits_hold.ensures ∙ not-false _ c.if-not-limits_hold.false-raw)
