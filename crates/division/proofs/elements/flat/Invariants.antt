@@ -1,0 +1,14 @@
+-- `division::elements::flat` meets its contract: an axis a turn (`Flattening`). Assumes nothing.
+use mathlib.Core.Path.{sym, ◌∙◌}
+use Prim.Native.Nat.{◌-◌}
+use lib.ListN.{length, take, drop}
+use Rattle.geom.specs.Elements.{pick}
+use Rattle.division.proofs.Flats.{Flattening, flattening_start, flattening_on, flattening_found, flattening_done}
+use native.Mathlib.Omega.{arith}
+use Rattle.division.proofs.elements.flat.Given as goal
+
+abbrev pub invariant-loop-axis : goal.invariant-loop-axis
+invariant-loop-axis l = Flattening (pick l.points (take l.corners (drop l.from l.table))) l.axes l.corners l.axis
+
+abbrev pub decreases-loop-axis : goal.decreases-loop-axis
+decreases-loop-axis l = length l.axes - l.axis

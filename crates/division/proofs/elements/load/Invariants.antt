@@ -1,0 +1,13 @@
+-- `division::elements::load` meets its contract: a copy, word by word. Assumes nothing.
+use Prim.Native.Nat.{ℕ, ◌+◌, ◌-◌}
+use lib.ListN.{get_or}
+use Rattle.division.proofs.Rows.{first_of_part, Copying, copying_start, copying_length, copying_on, copying_done}
+use borrow.Author.Rules.{rules}
+use native.Mathlib.Omega.{arith}
+use Rattle.division.proofs.elements.load.Given as goal
+
+abbrev pub invariant-loop-i : goal.invariant-loop-i
+invariant-loop-i l = Copying l.initial.points 0 (λ (j : ℕ). get_or l.old (l.from + j) 0) l.count l.i l.points
+
+abbrev pub decreases-loop-i : goal.decreases-loop-i
+decreases-loop-i l = l.count - l.i

@@ -1,0 +1,8 @@
+-- `vertices::make::put_vertex` meets its contract. Assumes nothing.
+use borrow.Author.Rules.{rules}
+use Rattle.geom.specs.Floats.{binary32}
+use Rattle.vertices.proofs.Making.{laid_one}
+use Rattle.vertices.proofs.make.put_vertex.Goals as goal
+
+pub returns : goal.returns
+returns c = laid_one binary32 _ _ _ _ _ _ c.put_point.ensures c.put_marks.ensures
