@@ -1,0 +1,16 @@
+-- `listing::lines::letters` meets its contract: the letters passed stand in the buffer. Assumes nothing.
+use mathlib.Core.Path.{sym, ap}
+use Prim.Native.Nat.{ℕ, ◌-◌}
+use Rattle.geom.specs.Listing.{letter}
+use Rattle.geom.specs.Memory.{parity_of}
+use Rattle.listing.specs.Text.{letter_text}
+use Rattle.listing.proofs.Texts.{Lining, lining_start, lining_room, lining_on, lining_long, lining_done}
+use native.Mathlib.Omega.{arith}
+use borrow.Author.Rules.{rules}
+use Rattle.listing.proofs.lines.letters.Given as goal
+
+abbrev pub invariant-loop-i : goal.invariant-loop-i
+invariant-loop-i l = Lining (letter_text l.words l.width l.column) l.rows l.at l.initial.out l.i l.next l.out
+
+abbrev pub decreases-loop-i : goal.decreases-loop-i
+decreases-loop-i l = l.rows - l.i

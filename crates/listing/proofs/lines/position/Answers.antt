@@ -1,0 +1,18 @@
+-- `listing::lines::position` meets its contract: the coordinates passed stand in the buffer. Assumes nothing.
+use mathlib.Core.Path.{sym, ap}
+use Prim.Native.Nat.{◌-◌}
+use lib.Ieee.{Float}
+use Rattle.geom.specs.Listing.{bits}
+use Rattle.listing.specs.Text.{coordinate_text}
+use Rattle.listing.proofs.Texts.{Lining, lining_start, lining_room, lining_on, lining_long, lining_done}
+use borrow.Author.Rules.{rules}
+use Rattle.listing.proofs.lines.position.Goals as goal
+
+pub loop-i-init : goal.loop-i-init
+loop-i-init c = lining_start _ _ _ _ c.requires.from_in_bounds_2
+
+pub shape_of-out : goal.shape_of-out
+shape_of-out c = lining_long _ c.loop-i.invariant
+
+pub returns : goal.returns
+returns c = lining_done _ c.loop-i.invariant c.loop-i-test.false

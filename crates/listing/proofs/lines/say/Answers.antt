@@ -1,0 +1,24 @@
+-- `listing::lines::say` meets its contract: a copy, byte by byte. Assumes nothing.
+use mathlib.Core.Path.{refl}
+use Prim.Native.Nat.{ℕ, ◌-◌}
+use lib.ListN.{length, get_or}
+use Rattle.division.proofs.Rows.{Copying, copying_start, copying_length, copying_on}
+use Rattle.listing.proofs.Texts.{put_copied, places}
+use native.Mathlib.Omega.{arith}
+use borrow.Author.Rules.{rules}
+use Rattle.listing.proofs.lines.say.Goals as goal
+
+pub loop-i-init : goal.loop-i-init
+loop-i-init c = copying_start _ c.requires
+
+pub bounds-out-at : goal.bounds-out-at
+bounds-out-at c = omega (arith, copying_length c.loop-i.invariant)
+
+pub loop-i-preserved : goal.loop-i-preserved
+loop-i-preserved c = copying_on _ c.loop-i.invariant c.loop-i-test.true refl
+
+pub shape_of-out : goal.shape_of-out
+shape_of-out c = copying_length c.loop-i.invariant
+
+pub returns : goal.returns
+returns c = put_copied _ _ c.loop-i.invariant c.loop-i-test.false (places _) (omega arith)

@@ -1,0 +1,16 @@
+-- `simplicial::tetrahedra` meets its contract: the tables are those of the definition, by computation. Assumes nothing.
+use mathlib.Core.Path.{refl}
+use Rattle.geom.specs.Memory.{first_of, element_row}
+use Rattle.geom.specs.Simplices.{tetrahedron}
+use Rattle.division.specs.Shapes.{below, edge_at, edges_of, order_of, row_of, table_of, axes_of, shape_of}
+use borrow.Author.Rules.{rules}
+use native.Mathlib.Omega.{arith}
+use Rattle.simplicial.proofs.tetrahedra.Goals as goal
+
+pub divide_all-requires : goal.divide_all-requires
+unfolding below first_of order_of
+divide_all-requires c = record { shaped = record { some = omega arith; few = omega arith; ends = refl; made = refl; all = refl; places = refl; along = refl }; count_in_bounds = c.requires.count_in_bounds; begun = c.requires.begun }
+
+pub returns : goal.returns
+unfolding axes_of edge_at edges_of element_row first_of order_of row_of shape_of table_of tetrahedron
+returns c = c.divide_all.ensures

@@ -1,0 +1,13 @@
+-- `triangulation::cutting::cut` meets its contract: a row of the table a turn (`Writing`). Assumes nothing.
+use Prim.Native.Nat.{◌-◌}
+use Rattle.triangulation.proofs.Turns.{Writing, writing_start, writing_length, writing_room, writing_on, writing_done}
+use Rattle.triangulation.proofs.Pieces.{row_lies, row_makes, cut_turns}
+use borrow.Author.Rules.{rules}
+use native.Mathlib.Omega.{arith}
+use Rattle.triangulation.proofs.cutting.cut.Given as goal
+
+abbrev pub invariant-loop-j : goal.invariant-loop-j
+invariant-loop-j l = Writing l.size l.rows (row_makes l.size l.table l.parity l.points) l.pieces l.initial.new l.j l.filled l.new
+
+abbrev pub decreases-loop-j : goal.decreases-loop-j
+decreases-loop-j l = l.pieces - l.j

@@ -1,0 +1,14 @@
+-- `triangulation::cutting::cut_all` meets its contract: an element a turn (`Writing`). Assumes nothing.
+use Prim.Native.Nat.{suc, ◌+◌, ◌*◌, ◌-◌, ◌≤◌}
+use lib.ListN.{length}
+use Rattle.triangulation.proofs.Turns.{Writing, writing_length, writing_room, writing_on}
+use Rattle.triangulation.proofs.Pieces.{element_lies, element_makes, all_start, all_done, read_table, makes_is}
+use borrow.Author.Rules.{rules}
+use native.Mathlib.Omega.{arith}
+use Rattle.triangulation.proofs.cutting.cut_all.Given as goal
+
+abbrev pub invariant-loop-i : goal.invariant-loop-i
+invariant-loop-i l = Writing l.size 0 (element_makes l.corners l.size l.table l.pieces l.old) l.rows l.initial.new l.i l.filled l.new
+
+abbrev pub decreases-loop-i : goal.decreases-loop-i
+decreases-loop-i l = l.rows - l.i
