@@ -5,7 +5,7 @@
 ghost use Rattle.std.specs.Prelude.{◌≡◌, suc, ◌*◌, ◌≤◌, length, [], ◌∷◌, map};
 ghost use Rattle.geom.specs.Book.{each};
 ghost use Rattle.geom.specs.Elements.{flat};
-ghost use Rattle.geom.specs.Cubes.{SQUARE_AXES, SQUARE, square as square_by, cube as cubeBy};
+ghost use Rattle.geom.specs.Cubes.{SQUARE_AXES as square_axes, SQUARE, square as square_by, cube as cubeBy};
 ghost use Rattle.geom.specs.Memory.{first_of, element_row, element_of};
 ghost use Rattle.book.specs.Cells.{pairs_of};
 ghost use Rattle.division.specs.Writing.{Begun, Extended, Passed};
@@ -85,7 +85,7 @@ const CUBE_AXES: [usize; 24] = [
 
 // Whether a square has no area: [a,b,a,b] or [a,a,c,c].
 fn is_flat(a: u32, b: u32, c: u32, d: u32) -> bool
-    ensures { result ≡ flat SQUARE_AXES (a ∷ b ∷ c ∷ d ∷ []) }
+    ensures { result ≡ flat square_axes (a ∷ b ∷ c ∷ d ∷ []) }
 {
     ((a == c) & (b == d)) | ((a == b) & (c == d))
 }
