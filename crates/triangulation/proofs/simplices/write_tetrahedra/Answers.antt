@@ -11,3 +11,7 @@ use Rattle.triangulation.proofs.simplices.write_tetrahedra.Goals as goal
 pub cut_all-requires : goal.cut_all-requires
 unfolding below cut_all cut_by element_row first_of neighbours row_of triangulate_cube
 cut_all-requires c = record { table = record { speaks = record { some = omega arith; places = refl }; few = omega arith; whole = refl }; rows_in_bounds = c.requires.rows_in_bounds; rows_in_bounds_2 = c.requires.rows_in_bounds_2 }
+
+pub returns : goal.returns
+unfolding cut_all cut_by element_row first_of neighbours row_of triangulate_cube
+returns c = c.cut_all.ensures
