@@ -1,0 +1,15 @@
+-- `lists::copy_points` meets its contract: a copy, word by word. Assumes nothing.
+use mathlib.Core.Path.{refl, ◌∙◌}
+use Prim.Native.Nat.{ℕ, ◌-◌}
+use lib.ListN.{get_or}
+use Rattle.division.proofs.Rows.{written_over, Copying, copying_start, copying_length, copying_on, copying_done}
+use Rattle.lists.specs.Lists.{points_of}
+use borrow.Author.Rules.{rules}
+use native.Mathlib.Omega.{arith}
+use Rattle.lists.proofs.copy_points.Given as goal
+
+abbrev pub invariant-loop-i : goal.invariant-loop-i
+invariant-loop-i l = Copying l.initial.new 0 (λ (j : ℕ). get_or l.old j 0) l.count l.i l.new
+
+abbrev pub decreases-loop-i : goal.decreases-loop-i
+decreases-loop-i l = l.count - l.i

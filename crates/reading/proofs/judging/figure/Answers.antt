@@ -1,0 +1,7 @@
+-- `reading::judging::figure` meets its contract. Assumes nothing.
+use Rattle.reading.proofs.Picks.{picks}
+use borrow.Author.Rules.{rules}
+use Rattle.reading.proofs.judging.figure.Goals as goal
+
+pub returns : goal.returns
+returns c = rw c.found_by.ensures (picks _ _ c.walk.result c.walk.ensures)
