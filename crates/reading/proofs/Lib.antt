@@ -1,6 +1,5 @@
--- a part at a place, and the reader that is lent to take it
+-- a part at a place
 pub mod Parts
-pub mod Lending
 -- the lists, the header before them, and the first refusal of all
 pub mod Lists
 pub mod Header
