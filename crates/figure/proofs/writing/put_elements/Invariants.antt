@@ -1,0 +1,13 @@
+-- `figure::writing::put_elements` meets its contract: the elements passed were written. Assumes nothing.
+use mathlib.Core.Path.{refl}
+use native.Mathlib.Omega.{arith}
+use Prim.Native.Nat.{◌+◌, ◌-◌}
+use Rattle.figure.proofs.Elements.{Elements, elements_start, elements_length, elements_on, elements_done, row_stands}
+use borrow.Author.Rules.{rules}
+use Rattle.figure.proofs.writing.put_elements.Given as goal
+
+abbrev pub invariant-loop-i : goal.invariant-loop-i
+invariant-loop-i l = Elements l.file (l.at + 4) l.corners l.initial.out l.out l.n l.i
+
+abbrev pub decreases-loop-i : goal.decreases-loop-i
+decreases-loop-i l = l.n - l.i

@@ -1,0 +1,12 @@
+-- `figure::writing::put_numbers` meets its contract: the numbers passed were written. Assumes nothing.
+use native.Mathlib.Omega.{arith}
+use Prim.Native.Nat.{◌-◌}
+use Rattle.figure.proofs.Elements.{Numbers, numbers_start, numbers_length, numbers_on, numbers_done}
+use borrow.Author.Rules.{rules}
+use Rattle.figure.proofs.writing.put_numbers.Given as goal
+
+abbrev pub invariant-loop-i : goal.invariant-loop-i
+invariant-loop-i l = Numbers l.file l.at l.initial.out l.out l.from l.n l.i
+
+abbrev pub decreases-loop-i : goal.decreases-loop-i
+decreases-loop-i l = l.n - l.i
