@@ -2,4 +2,3 @@ pub mod Laying
 pub mod Elements
 pub mod Strings
 pub mod Benches
-pub mod Putting
