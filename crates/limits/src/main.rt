@@ -14,15 +14,24 @@ ghost use Rattle.std.specs.Prelude.{◌≡◌, length};
 
 use geom::answer::{Ended, Refined, Sizes};
 use geom::kind::Kind;
-use libc::STDOUT_FILENO;
+use std::io;
 use subdivision::subdivide;
 
-fn main() {
+fn main(rt: HostRuntime) -> io::Result<()> {
     let mut points = cells();
     let mut other_points = cells();
-    show(at_depth_0(&mut points, &mut other_points, 1_048_576, 0));
-    show(at_depth_0(&mut points, &mut other_points, 1_048_577, 0));
-    show(at_depth_0(&mut points, &mut other_points, 1_048_577, 1));
+    show(
+        &rt,
+        at_depth_0(&mut points, &mut other_points, 1_048_576, 0),
+    )?;
+    show(
+        &rt,
+        at_depth_0(&mut points, &mut other_points, 1_048_577, 0),
+    )?;
+    show(
+        &rt,
+        at_depth_0(&mut points, &mut other_points, 1_048_577, 1),
+    )
 }
 
 // One cell more than the limit.
@@ -92,29 +101,10 @@ fn at_depth_0(
 }
 
 // How it ended, after how many whole passes, and the points that are left.
-fn show(answer: Refined) {
-    let sizes = answer.sizes;
-    let ended = answer.ended;
-    match ended {
-        Ended::Finished => say(b"finished after "),
-        Ended::Refused(number) => refused(number),
+fn show(rt: &impl Print, answer: Refined) -> io::Result<()> {
+    match answer.ended {
+        Ended::Finished => print!(rt; "finished")?,
+        Ended::Refused(number) => print!(rt; "refused {number}")?,
     }
-    decimal(answer.passes as u64);
-    say(b": points ");
-    decimal(sizes.points as u64);
-    say(b"\n");
-}
-
-fn refused(number: u8) {
-    say(b"refused ");
-    decimal(number as u64);
-    say(b" after ");
-}
-
-fn decimal(n: u64) {
-    io::print_decimal(STDOUT_FILENO, n);
-}
-
-fn say(text: &[u8]) {
-    io::write_all(STDOUT_FILENO, text);
+    println!(rt; " after {}: points {}", answer.passes, answer.sizes.points)
 }

@@ -1,14 +1,16 @@
 // The desk of the program: cells for a mesh on two benches, for the book and for smoothing. A file is read onto it and refined.
 use crate::mesh::{end, mesh, refused};
-use crate::print::{say, spaced};
+use crate::print::spaced;
 use figure::load;
 use geom::answer::Opened;
 use geom::kind::Kind;
+use std::io;
+use std::io::Write;
 use subdivision::subdivide;
 
 // Fresh cells, so few that small meshes are refused for each of them: 32 vertices, 12 points, 16 lines, 16 squares or 20 triangles, 20 cubes or
 // 36 tetrahedra, 12 curves with 18 vertices, and 24 entries of the book.
-pub fn on_desk(depth: u8, time: u8, file: &[u8]) {
+pub fn on_desk<W: Write>(out: &mut W, depth: u8, time: u8, file: &[u8]) -> io::Result<()> {
     let mut positions = [0.0; 128];
     let mut marks = [0; 96];
     let mut points = [0; 12];
@@ -49,9 +51,8 @@ pub fn on_desk(depth: u8, time: u8, file: &[u8]) {
     );
     let opened = reading.opened;
     if let Opened::Refused(n) = opened {
-        say(b"\nfile");
-        refused(n);
-        return;
+        out.write_all(b"\nfile")?;
+        return refused(out, n);
     }
     let kind = kind_of(opened);
     let answer = subdivide(
@@ -82,15 +83,16 @@ pub fn on_desk(depth: u8, time: u8, file: &[u8]) {
     let ended = answer.ended;
     let passes = answer.passes;
     let sizes = answer.sizes;
-    end(b"\nrefinement", ended);
-    say(b" after");
-    spaced(passes as usize);
+    end(out, b"\nrefinement", ended)?;
+    out.write_all(b" after")?;
+    spaced(out, passes as usize)?;
     if passes % 2 == 0 {
         mesh(
-            kind, sizes, &positions, &marks, &points, &lines, &areas, &volumes, &curves, &steps,
-        );
+            out, kind, sizes, &positions, &marks, &points, &lines, &areas, &volumes, &curves, &steps,
+        )
     } else {
         mesh(
+            out,
             kind,
             sizes,
             &other_positions,
@@ -101,7 +103,7 @@ pub fn on_desk(depth: u8, time: u8, file: &[u8]) {
             &other_volumes,
             &other_curves,
             &other_steps,
-        );
+        )
     }
 }
 

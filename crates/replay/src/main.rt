@@ -12,7 +12,9 @@ mod print;
 ghost use Rattle.std.specs.Prelude.{◌≡◌, ◌<◌, length};
 
 use desk::on_desk;
-use print::say;
+use std::fs;
+use std::io;
+use std::io::Write;
 
 // As many bytes as the stored files may have, and one more.
 fn buffer() -> [u8; 131073]
@@ -21,33 +23,28 @@ fn buffer() -> [u8; 131073]
     [0; 131073]
 }
 
-fn main() {
-    let fd = os::open_read(b"files");
-    if fd < 0 {
-        os::fail(b"files");
-        return;
-    }
+fn main(rt: HostRuntime) -> io::Result<()> {
+    let mut file = fs::open(&rt, "files")?;
     let mut text = buffer();
-    let n = io::read_full(fd, &mut text);
-    libc::close(fd);
+    let n = input::read_full(&mut file, &mut text)?;
+    let mut out = io::writer(&rt);
     if n == text.len() {
-        say(b"the file is too long\n");
-        return;
+        return out.write_all(b"the file is too long\n");
     }
-    replay(&text[..n]);
+    replay(&mut out, &text[..n])
 }
 
 // Every record, to the end or to what is none.
-fn replay(text: &[u8]) {
+fn replay<W: Write>(out: &mut W, text: &[u8]) -> io::Result<()> {
     let mut at = 0;
     while at < text.len() {
-        let next = record(text, at);
+        let next = record(out, text, at)?;
         if next <= at {
-            say(b"the file ends within a record\n");
-            return;
+            return out.write_all(b"the file ends within a record\n");
         }
         at = next;
     }
+    Ok(())
 }
 
 fn wide(b: u8) -> usize
@@ -57,19 +54,19 @@ fn wide(b: u8) -> usize
 }
 
 // The record at a place is replayed after its name is printed; answers the place after it, or 0.
-fn record(text: &[u8], at: usize) -> usize
+fn record<W: Write>(out: &mut W, text: &[u8], at: usize) -> io::Result<usize>
     requires { at < length text.now }
 {
     if text.len() - at < 5 {
-        return 0;
+        return Ok(0);
     }
     let start = at + 5 + wide(text[at]);
     let end = start + 256 * wide(text[at + 3]) + wide(text[at + 4]);
     if text.len() < end {
-        return 0;
+        return Ok(0);
     }
-    say(&text[at + 5..start]);
-    on_desk(text[at + 1], text[at + 2], &text[start..end]);
-    say(b"\n");
-    end
+    out.write_all(&text[at + 5..start])?;
+    on_desk(out, text[at + 1], text[at + 2], &text[start..end])?;
+    out.write_all(b"\n")?;
+    Ok(end)
 }

@@ -1,31 +1,34 @@
 // A refined mesh in print, the simplices that cubes are cut into, and the normals of simplices.
 ghost use Rattle.std.specs.Prelude.{◌<◌};
 
-use crate::print::{number_rows, rows, say, spaced};
+use crate::print::{number_rows, rows, spaced};
 use geom::answer::{Ended, Sizes};
 use geom::kind::Kind;
 use normals3::compute_normals_3d;
 use normals4::compute_normals_4d;
+use std::io;
+use std::io::Write;
 use triangulation::triangulate;
 
-pub fn refused(n: u8) {
-    say(b" refused");
-    spaced(n as usize);
+pub fn refused<W: Write>(out: &mut W, n: u8) -> io::Result<()> {
+    out.write_all(b" refused")?;
+    spaced(out, n as usize)
 }
 
 // How something ended; answers whether it was finished.
-pub fn end(what: &[u8], ended: Ended) -> bool {
-    say(what);
+pub fn end<W: Write>(out: &mut W, what: &[u8], ended: Ended) -> io::Result<bool> {
+    out.write_all(what)?;
     let Ended::Refused(n) = ended else {
-        say(b" finished");
-        return true;
+        out.write_all(b" finished")?;
+        return Ok(true);
     };
-    refused(n);
-    false
+    refused(out, n)?;
+    Ok(false)
 }
 
 // A mesh of either kind. It comes in arrays, whose lengths no caller has to show after they were lent and changed.
-pub fn mesh(
+pub fn mesh<W: Write>(
+    out: &mut W,
     kind: Kind,
     sizes: Sizes,
     positions: &[f32; 128],
@@ -36,26 +39,27 @@ pub fn mesh(
     volumes: &[u32; 180],
     curves: &[u32; 24],
     steps: &[u32; 36],
-) {
-    number_rows(b"v", positions, 4, sizes.vertices);
-    rows(b"m", marks, 3, sizes.vertices);
-    rows(b"p", points, 1, sizes.points);
-    rows(b"l", lines, 3, sizes.lines);
-    rows(b"c", curves, 2, sizes.curves);
-    rows(b"w", steps, 2, sizes.curve_vertices);
+) -> io::Result<()> {
+    number_rows(out, b"v", positions, 4, sizes.vertices)?;
+    rows(out, b"m", marks, 3, sizes.vertices)?;
+    rows(out, b"p", points, 1, sizes.points)?;
+    rows(out, b"l", lines, 3, sizes.lines)?;
+    rows(out, b"c", curves, 2, sizes.curves)?;
+    rows(out, b"w", steps, 2, sizes.curve_vertices)?;
     if let Kind::Simplices = kind {
         simplices(
-            sizes, positions, marks, points, lines, areas, volumes, curves, steps,
-        );
+            out, sizes, positions, marks, points, lines, areas, volumes, curves, steps,
+        )
     } else {
         cubes(
-            sizes, positions, marks, points, lines, areas, volumes, curves, steps,
-        );
+            out, sizes, positions, marks, points, lines, areas, volumes, curves, steps,
+        )
     }
 }
 
 // Squares and cubes, and the simplices that they are cut into.
-fn cubes(
+fn cubes<W: Write>(
+    out: &mut W,
     sizes: Sizes,
     positions: &[f32],
     marks: &[u32],
@@ -65,9 +69,9 @@ fn cubes(
     volumes: &[u32],
     curves: &[u32],
     steps: &[u32],
-) {
-    rows(b"a", areas, 5, sizes.areas);
-    rows(b"s", volumes, 9, sizes.volumes);
+) -> io::Result<()> {
+    rows(out, b"a", areas, 5, sizes.areas)?;
+    rows(out, b"s", volumes, 9, sizes.volumes)?;
     let mut triangles = [0; 120];
     let mut tetrahedra = [0; 300];
     let answer = triangulate(
@@ -85,10 +89,11 @@ fn cubes(
     );
     let ended = answer.ended;
     let after = answer.sizes;
-    if !end(b"\ntriangulation", ended) {
-        return;
+    if !end(out, b"\ntriangulation", ended)? {
+        return Ok(());
     }
     simplices(
+        out,
         after,
         positions,
         marks,
@@ -98,11 +103,12 @@ fn cubes(
         &tetrahedra,
         curves,
         steps,
-    );
+    )
 }
 
 // Triangles and tetrahedra, and their normals in three dimensions and in four.
-fn simplices(
+fn simplices<W: Write>(
+    out: &mut W,
     sizes: Sizes,
     positions: &[f32],
     marks: &[u32],
@@ -112,9 +118,9 @@ fn simplices(
     volumes: &[u32],
     curves: &[u32],
     steps: &[u32],
-) {
-    rows(b"a", areas, 4, sizes.areas);
-    rows(b"s", volumes, 5, sizes.volumes);
+) -> io::Result<()> {
+    rows(out, b"a", areas, 4, sizes.areas)?;
+    rows(out, b"s", volumes, 5, sizes.volumes)?;
     let mut normals = [0.0; 48];
     let three = compute_normals_3d(
         sizes,
@@ -128,7 +134,7 @@ fn simplices(
         steps,
         &mut normals,
     );
-    show(three, 3, sizes.vertices, &normals);
+    show(out, three, 3, sizes.vertices, &normals)?;
     let four = compute_normals_4d(
         sizes,
         positions,
@@ -141,14 +147,21 @@ fn simplices(
         steps,
         &mut normals,
     );
-    show(four, 4, sizes.vertices, &normals);
+    show(out, four, 4, sizes.vertices, &normals)
 }
 
 // The normals of so many vertices, if they were written.
-fn show(ended: Ended, width: usize, vertices: usize, normals: &[f32])
+fn show<W: Write>(
+    out: &mut W,
+    ended: Ended,
+    width: usize,
+    vertices: usize,
+    normals: &[f32],
+) -> io::Result<()>
     requires { 0 < width }
 {
-    if end(b"\nnormals", ended) {
-        number_rows(b"n", normals, width, vertices);
+    if end(out, b"\nnormals", ended)? {
+        number_rows(out, b"n", normals, width, vertices)?;
     }
+    Ok(())
 }

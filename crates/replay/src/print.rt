@@ -1,64 +1,67 @@
 // Lists in print: each row on a line of its own, its name first. Words are decimal, and numbers are the eight hexadecimal digits of their bits.
 ghost use Rattle.std.specs.Prelude.{◌<◌};
 
-use libc::STDOUT_FILENO;
 use listing::digits::{hexadecimal, pattern};
-
-pub fn say(text: &[u8]) {
-    io::write_all(STDOUT_FILENO, text);
-}
+use std::io;
+use std::io::Write;
 
 // A number after a space.
-pub fn spaced(n: usize) {
-    say(b" ");
-    io::print_decimal(STDOUT_FILENO, n as u64);
+pub fn spaced<W: Write>(out: &mut W, n: usize) -> io::Result<()> {
+    write!(out, " {n}")
 }
 
-fn word(w: u32) {
-    spaced(w as usize);
-}
-
-fn bits(c: f32) {
+fn bits<W: Write>(out: &mut W, c: f32) -> io::Result<()> {
     let mut text = [b' '; 9];
     hexadecimal(pattern(c), &mut text, 1);
-    say(&text);
+    out.write_all(&text)
 }
 
 // A row starts where the width says so.
-fn head(name: &[u8], i: usize, width: usize)
+fn head<W: Write>(out: &mut W, name: &[u8], i: usize, width: usize) -> io::Result<()>
     requires { 0 < width }
 {
     if i % width == 0 {
-        say(b"\n");
-        say(name);
+        out.write_all(b"\n")?;
+        out.write_all(name)?;
     }
+    Ok(())
 }
 
 // So many rows of a list.
-pub fn rows(name: &[u8], words: &[u32], width: usize, count: usize)
+pub fn rows<W: Write>(
+    out: &mut W,
+    name: &[u8],
+    words: &[u32],
+    width: usize,
+    count: usize,
+) -> io::Result<()>
     requires { 0 < width }
 {
-    let mut i = 0;
-    while i < words.len() {
+    for (i, word) in words.iter().enumerate() {
         if count <= i / width {
-            return;
+            break;
         }
-        head(name, i, width);
-        word(words[i]);
-        i += 1;
+        head(out, name, i, width)?;
+        spaced(out, *word as usize)?;
     }
+    Ok(())
 }
 
-pub fn number_rows(name: &[u8], numbers: &[f32], width: usize, count: usize)
+pub fn number_rows<W: Write>(
+    out: &mut W,
+    name: &[u8],
+    numbers: &[f32],
+    width: usize,
+    count: usize,
+) -> io::Result<()>
     requires { 0 < width }
 {
-    let mut i = 0;
-    while i < numbers.len() {
+    for (i, number) in numbers.iter().enumerate() {
         if count <= i / width {
-            return;
+            break;
         }
-        head(name, i, width);
-        bits(numbers[i]);
-        i += 1;
+        head(out, name, i, width)?;
+        bits(out, *number)?;
     }
+    Ok(())
 }

@@ -19,67 +19,57 @@ mod replay;
 mod row;
 mod walk;
 
-use libc::STDOUT_FILENO;
+use std::io::Write;
+use std::rt::Files;
+use std::{fs, io};
 
-fn main() {
-    replay_published();
-    walk_patterns();
+fn main(rt: HostRuntime) -> io::Result<()> {
+    replay_published(&rt)?;
+    walk_patterns(&rt)
 }
 
 // Replays the published roots, and prints how many agree and the first row that does not.
-fn replay_published() {
-    let path = b"square-roots-newlib-3.3.0.txt";
-    let fd = os::open_read(path);
-    if fd < 0 {
-        os::fail(path);
-        return;
-    }
-    let mut text = io::large_buffer();
-    let n = io::read_full(fd, &mut text);
-    libc::close(fd);
-    print_replay(&text[..n]);
+fn replay_published<R: Files + Print>(rt: &R) -> io::Result<()> {
+    let mut file = fs::open(rt, "square-roots-newlib-3.3.0.txt")?;
+    let mut text = [0; 65536];
+    let n = input::read_full(&mut file, &mut text)?;
+    print_replay(rt, &text[..n])
 }
 
-fn print_replay(text: &[u8]) {
+fn print_replay(rt: &impl Print, text: &[u8]) -> io::Result<()> {
     let done = replay::replay(text);
-    io::write_all(STDOUT_FILENO, b"published roots: ");
-    io::print_decimal(STDOUT_FILENO, done.agree);
-    io::write_all(STDOUT_FILENO, b" of ");
-    io::print_decimal(STDOUT_FILENO, done.rows);
-    io::write_all(STDOUT_FILENO, b" agree\n");
+    println!(rt; "published roots: {} of {} agree", done.agree, done.rows)?;
     if done.agree < done.rows {
-        io::write_all(STDOUT_FILENO, b"first that does not: ");
-        print_line(text, done.first);
+        print!(rt; "first that does not: ")?;
+        print_line(rt, text, done.first)?;
     }
+    Ok(())
 }
 
-fn print_line(text: &[u8], from: usize) {
+fn print_line(rt: &impl Print, text: &[u8], from: usize) -> io::Result<()> {
     if from < text.len() {
         let end = row::line_end(text, from);
-        io::write_all(STDOUT_FILENO, &text[from..end]);
-        io::write_all(STDOUT_FILENO, b"\n");
+        io::writer(rt).write_all(&text[from..end])?;
+        println!(rt; "")?;
     }
+    Ok(())
 }
 
 // Walks the spread patterns and those at each field's ends, and prints how many there are of each kind and the first that is wrong.
-fn walk_patterns() {
+fn walk_patterns(rt: &impl Print) -> io::Result<()> {
     let done = walk::at_field_ends(walk::spread(walk::start()));
-    io::write_all(STDOUT_FILENO, b"walked: ");
-    io::print_decimal(STDOUT_FILENO, walk::visited(done));
-    io::write_all(STDOUT_FILENO, b" patterns, ");
-    io::print_decimal(STDOUT_FILENO, done.above);
-    io::write_all(STDOUT_FILENO, b" above zero, ");
-    io::print_decimal(STDOUT_FILENO, done.below);
-    io::write_all(STDOUT_FILENO, b" below zero, ");
-    io::print_decimal(STDOUT_FILENO, done.own);
-    io::write_all(STDOUT_FILENO, b" that are their own roots, ");
-    io::print_decimal(STDOUT_FILENO, done.nans);
-    io::write_all(STDOUT_FILENO, b" NaN patterns left out, ");
-    io::print_decimal(STDOUT_FILENO, done.wrong);
-    io::write_all(STDOUT_FILENO, b" wrong\n");
+    print!(rt;
+        "walked: {} patterns, {} above zero, ",
+        walk::visited(done),
+        done.above
+    )?;
+    print!(rt;
+        "{} below zero, {} that are their own roots, ",
+        done.below, done.own
+    )?;
+    println!(rt; "{} NaN patterns left out, {} wrong", done.nans, done.wrong)?;
     if 0 < done.wrong {
-        io::write_all(STDOUT_FILENO, b"first that is wrong: ");
-        io::print_hex(STDOUT_FILENO, done.first as u64, 8);
-        io::write_all(STDOUT_FILENO, b"\n");
+        println!(rt; "first that is wrong: {:08x}", done.first)?;
     }
+    Ok(())
 }

@@ -2,15 +2,11 @@
 use mathlib.Core.Path.{◌≡◌, sym}
 use Prim.Native.Nat.{ℕ}
 use lib.ListN.{length, replicate, length-replicate}
-use Rattle.limits.proofs.cells.Statement.{statement}
-use Rattle.limits.proofs.cells.Tie as tie
+use Rattle.limits.proofs.cells.Goals as goal
 
 -- of any number of cells, so that nothing counts them one by one
 counted : (n : ℕ) → n ≡ length {A = ℕ} (replicate n 0)
 counted n = sym (length-replicate n 0)
 
-returns : tie.Need-returns
+pub returns : goal.returns
 returns c = counted 1_048_577
-
-pub cells_spec : {M : Type 1} → statement M
-cells_spec = tie.close (tie.spec returns)
