@@ -22,6 +22,9 @@ LIBRARY = re.compile(r"use\s+((?:Rattle\.(?:std|core)|lib|mathlib|borrow|logic|P
 GOAL = re.compile(r"\b(?:tie|goal)\.")
 # Where the rule below would give a name that says something else: a count beside the field of its name, a test beside its lemma.
 CHOSEN = {"curveVertices": "curve_vertices_of", "curve-vertices": "curve_vertices_lem", "aboveZero": "is_above_zero"}
+# As a record's field the first has the name of the field of `Sizes` that it stands beside.
+FIELDS = {"curveVertices": "curve_vertices"}
+FIELD = re.compile(r"\.«?\0|(?:^\s+|[{;]\s*)(?:pub\s+)?\0\s+[=:](?:\s|$)")
 KEPT = {"use", "where", "let", "record", "data", "open", "unfolding", "in", "elim", "as"}
 
 
@@ -84,6 +87,16 @@ def declared(texts):
     return names
 
 
+def aliases(paths):
+    """The names that clauses give to definitions by `as`."""
+    out = set()
+    for path in paths:
+        for line in read(path).split("\n"):
+            if line.startswith("ghost use "):
+                out |= {name.rstrip("};") for name in RENAMED.findall(line)}
+    return out
+
+
 def taken(texts):
     """The words that each file takes from the kit's library."""
     out = collections.defaultdict(set)
@@ -116,7 +129,11 @@ def turned(text, new, kept, comments_only_quoted):
     """The text with each word turned that the table has and the file may turn. In a comment a word with a dash turns only between backticks."""
 
     def word(m):
-        return new.get(m[0], m[0]) if m[0] not in kept else m[0]
+        if m[0] in kept:
+            return m[0]
+        if m[0] in FIELDS and FIELD.search(m.string[: m.start()] + "\0" + m.string[m.end() :]):
+            return FIELDS[m[0]]
+        return new.get(m[0], m[0])
 
     def comment(t):
         t = re.sub(r"`[^`]*`", lambda m: re.sub(WORD, word, m[0]), t)
@@ -134,8 +151,12 @@ def turned(text, new, kept, comments_only_quoted):
 def main(check):
     texts = {path: read(path) for path in files()}
     names = declared(texts)
+    sources = sorted(glob.glob("crates/*/src/**/*.rt", recursive=True))
     library = taken(texts)
     new = table(names, set().union(*library.values()))
+    for name in aliases(sources):
+        if old(name):
+            new.setdefault(name, snake(name))
     changed = 0
 
     def write(path, text, to):
@@ -148,7 +169,7 @@ def main(check):
 
     for path, text in texts.items():
         write(path, text, turned(text, new, library[path], r"(^|\s)--(\s|$)"))
-    for path in sorted(glob.glob("crates/*/src/**/*.rt", recursive=True)):
+    for path in sources:
         text = read(path)
         write(path, text, turned(text, new, taken({path: text})[path], r"//"))
     for path in sorted(glob.glob("crates/*/must-fail/*.edit")):

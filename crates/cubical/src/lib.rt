@@ -5,7 +5,7 @@
 ghost use Rattle.std.specs.Prelude.{◌≡◌, suc, ◌*◌, ◌≤◌, length, [], ◌∷◌, map};
 ghost use Rattle.geom.specs.Book.{each};
 ghost use Rattle.geom.specs.Elements.{flat};
-ghost use Rattle.geom.specs.Cubes.{SQUARE_AXES as square_axes, SQUARE, square as square_by, cube as cubeBy};
+ghost use Rattle.geom.specs.Cubes.{SQUARE_AXES as square_axes, SQUARE, square as square_by, cube as cube_by};
 ghost use Rattle.geom.specs.Memory.{first_of, element_row, element_of};
 ghost use Rattle.book.specs.Cells.{pairs_of};
 ghost use Rattle.division.specs.Writing.{Begun, Extended, Passed};
@@ -238,7 +238,7 @@ pub fn cubes(
 ) -> Written
     requires count_in_bounds { 9 * count ≤ length old.now }
     requires begun { Begun 8 base room cells 0 made new.old book.old }
-    ensures { Passed base room cells (each (cubeBy base) (pairs_of book.old made) (map element_of (first_of (element_row 8 old.now) count))) new.old new.new book.new result }
+    ensures { Passed base room cells (each (cube_by base) (pairs_of book.old made) (map element_of (first_of (element_row 8 old.now) count))) new.old new.new book.new result }
 {
     divide_all(
         Kind::Cubes,

@@ -36,7 +36,7 @@ cells_lent kind b l =
     let a : length b.areas / suc (area_corners kind) ≡ 1024 = areas kind (length b.areas) l.areas in
     let w : length b.volumes / suc (volume_corners kind) ≡ 1024 = volumes kind (length b.volumes) l.volumes in
     let c : length b.curves / 2 ≡ 1024 = omega (arith, l.curves) in
-    let s : length b.curve_vertices_of / 2 ≡ 1024 = omega (arith, l.steps) in
+    let s : length b.curve_vertices / 2 ≡ 1024 = omega (arith, l.steps) in
     λ i. record { vertices = v i; points = l.points i; lines = n i; areas = a i; volumes = w i; curves = c i; curve_vertices = s i }
   where
     areas : (kind : Kind) (n : ℕ) → n ≡ suc (area_corners kind) * 1024 → n / suc (area_corners kind) ≡ 1024

@@ -24,7 +24,7 @@ pub record Lengths (kind : Kind) (b : Bench) : Type 0 where
   pub areas : length b.areas ≡ suc (area_corners kind) * 1024
   pub volumes : length b.volumes ≡ suc (volume_corners kind) * 1024
   pub curves : length b.curves ≡ 2048
-  pub steps : length b.curve_vertices_of ≡ 2048
+  pub steps : length b.curve_vertices ≡ 2048
 
 -- the smooth_time byte was judged, and every text has room
 pub record Lent (byte : ℕ) (out : List ℕ) : Type 0 where

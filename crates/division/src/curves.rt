@@ -3,7 +3,7 @@
 ghost use Rattle.std.specs.Prelude.{◌≡◌, [], ◌∷◌, suc, ◌+◌, ◌*◌, ◌<◌, ◌≤◌, length, get_or};
 ghost use Rattle.geom.specs.Book.{each};
 ghost use Rattle.geom.specs.Kinds.{kind_of};
-ghost use Rattle.geom.specs.Rules.{step_ends, curve as curveBy};
+ghost use Rattle.geom.specs.Rules.{step_ends, curve as curve_by};
 ghost use Rattle.geom.specs.Memory.{first_of, curve_row};
 ghost use Rattle.geom.specs.Refusals.{curve_lengths};
 ghost use Rattle.book.specs.Cells.{pairs_of};
@@ -105,7 +105,7 @@ fn curve(
     requires row_in_bounds_2 { 2 * (from + get_or old.now (2 * row + 1) 0) ≤ length old_vertices.now }
     requires row_in_bounds_3 { 2 * suc row ≤ length new.old }
     requires spread { Spread base room cells rows made new_vertices.old book.old }
-    ensures { Strung base room cells row rows (curveBy (kind_of kind) base (pairs_of book.old made) (curve_at old.now old_vertices.now from row)) new.old new.new new_vertices.old new_vertices.new book.new result }
+    ensures { Strung base room cells row rows (curve_by (kind_of kind) base (pairs_of book.old made) (curve_at old.now old_vertices.now from row)) new.old new.new new_vertices.old new_vertices.new book.new result }
 {
     let tag = old[2 * row];
     let count = old[2 * row + 1] as usize;
@@ -159,7 +159,7 @@ pub fn curves(
     requires count_in_bounds_2 { 2 * curve_lengths (first_of (curve_row old.now) count) ≤ length old_vertices.now }
     requires count_in_bounds_3 { 2 * count ≤ length new.old }
     requires spread { Spread base room cells 0 made new_vertices.old book.old }
-    ensures { Curved base room cells (each (curveBy (kind_of kind) base) (pairs_of book.old made) (curves_in old.now old_vertices.now count)) new.old new.new new_vertices.old new_vertices.new book.new result }
+    ensures { Curved base room cells (each (curve_by (kind_of kind) base) (pairs_of book.old made) (curves_in old.now old_vertices.now count)) new.old new.new new_vertices.old new_vertices.new book.new result }
 {
     let mut rows = 0;
     let mut entries = made;

@@ -4,8 +4,8 @@ ghost use Rattle.std.specs.Prelude.{◌≡◌, true, ℕ, suc, ◌+◌, ◌*◌,
 ghost use Rattle.geom.specs.Parity.{times};
 ghost use Rattle.geom.specs.Book.{pair, each};
 ghost use Rattle.geom.specs.Kinds.{kind_of};
-ghost use Rattle.geom.specs.Elements.{point_at, pick, shut as shutAlong, flat as flatAlong, pieces as pieces_of};
-ghost use Rattle.geom.specs.Rules.{divide as divideBy};
+ghost use Rattle.geom.specs.Elements.{point_at, pick, shut as shut_along, flat as flat_along, pieces as pieces_of};
+ghost use Rattle.geom.specs.Rules.{divide as divide_by};
 ghost use Rattle.geom.specs.Memory.{first_of, element_row, element_of, parity_of};
 ghost use Rattle.book.specs.Cells.{pairs_of};
 ghost use Rattle.book.specs.Answers.{Ready, Answered};
@@ -92,7 +92,7 @@ fn shut(
     requires tabled { Tabled corners points.now table.now axes.now }
     requires corners_in_bounds { from + suc corners ≤ length table.now }
     requires corners_in_bounds_2 { axis + corners ≤ length axes.now }
-    ensures { result ≡ shutAlong (pick points.now (take corners (drop from table.now))) (axis_from corners axes.now axis) }
+    ensures { result ≡ shut_along (pick points.now (take corners (drop from table.now))) (axis_from corners axes.now axis) }
 {
     let count = corners / 2;
     let mut i = 0;
@@ -111,7 +111,7 @@ fn shut(
 fn flat(points: &[u32], corners: usize, table: &[usize], from: usize, axes: &[usize]) -> bool
     requires tabled { Tabled corners points.now table.now axes.now }
     requires corners_in_bounds { from + suc corners ≤ length table.now }
-    ensures { result ≡ flatAlong (axes_of corners axes.now) (pick points.now (take corners (drop from table.now))) }
+    ensures { result ≡ flat_along (axes_of corners axes.now) (pick points.now (take corners (drop from table.now))) }
 {
     let mut axis = 0;
     while corners <= axes.len() - axis {
@@ -279,7 +279,7 @@ fn divide(
     requires shaped { Shaped corners edges.now order.now table.now axes.now }
     requires row_in_bounds { suc corners * suc row ≤ length old.now }
     requires begun { Begun corners base room cells rows made new.old book.old }
-    ensures { Extended corners base room cells rows (divideBy (kind_of kind) (shape_of corners edges.now order.now table.now axes.now) base (pairs_of book.old made) (element_of (element_row corners old.now row))) new.old new.new book.new result }
+    ensures { Extended corners base room cells rows (divide_by (kind_of kind) (shape_of corners edges.now order.now table.now axes.now) base (pairs_of book.old made) (element_of (element_row corners old.now row))) new.old new.new book.new result }
 {
     let from = (corners + 1) * row;
     let mut points = [0u32; 27];
@@ -333,7 +333,7 @@ pub fn divide_from(
     requires shaped { Shaped corners edges.now order.now table.now axes.now }
     requires count_in_bounds { suc corners * (first + count) ≤ length old.now }
     requires begun { Begun corners base room cells start made new.old book.old }
-    ensures { Extended corners base room cells start (each (divideBy (kind_of kind) (shape_of corners edges.now order.now table.now axes.now) base) (pairs_of book.old made) (map element_of (first_of (λ (i : ℕ). element_row corners old.now (first + i)) count))) new.old new.new book.new result }
+    ensures { Extended corners base room cells start (each (divide_by (kind_of kind) (shape_of corners edges.now order.now table.now axes.now) base) (pairs_of book.old made) (map element_of (first_of (λ (i : ℕ). element_row corners old.now (first + i)) count))) new.old new.new book.new result }
 {
     let mut rows = start;
     let mut entries = made;
@@ -393,7 +393,7 @@ pub fn divide_all(
     requires shaped { Shaped corners edges.now order.now table.now axes.now }
     requires count_in_bounds { suc corners * count ≤ length old.now }
     requires begun { Begun corners base room cells 0 made new.old book.old }
-    ensures { Passed base room cells (each (divideBy (kind_of kind) (shape_of corners edges.now order.now table.now axes.now) base) (pairs_of book.old made) (map element_of (first_of (element_row corners old.now) count))) new.old new.new book.new result }
+    ensures { Passed base room cells (each (divide_by (kind_of kind) (shape_of corners edges.now order.now table.now axes.now) base) (pairs_of book.old made) (map element_of (first_of (element_row corners old.now) count))) new.old new.new book.new result }
 {
     divide_from(
         kind, old, 0, count, corners, edges, order, table, axes, new, 0, cells, book, made, room,

@@ -2,7 +2,7 @@
 ghost use Rattle.std.specs.Prelude.{◌≡◌, suc, ◌*◌, ◌≤◌, length, map};
 ghost use Rattle.geom.specs.Book.{each};
 ghost use Rattle.geom.specs.Kinds.{kind_of};
-ghost use Rattle.geom.specs.Rules.{line as lineBy};
+ghost use Rattle.geom.specs.Rules.{line as line_by};
 ghost use Rattle.geom.specs.Memory.{first_of, element_row, element_of};
 ghost use Rattle.book.specs.Cells.{pairs_of};
 ghost use Rattle.division.specs.Shapes.{LINE_TABLE};
@@ -35,7 +35,7 @@ fn line(
     requires row_in_bounds { 3 * suc row ≤ length old.now }
     requires table_value { table.now ≡ LINE_TABLE }
     requires begun { Begun 2 base room cells rows made new.old book.old }
-    ensures { Extended 2 base room cells rows (lineBy (kind_of kind) base (pairs_of book.old made) (element_of (element_row 2 old.now row))) new.old new.new book.new result }
+    ensures { Extended 2 base room cells rows (line_by (kind_of kind) base (pairs_of book.old made) (element_of (element_row 2 old.now row))) new.old new.new book.new result }
 {
     let from = 3 * row;
     let a = old[from];
@@ -82,7 +82,7 @@ fn lines_by(
     requires count_in_bounds { 3 * count ≤ length old.now }
     requires table_value { table.now ≡ LINE_TABLE }
     requires begun { Begun 2 base room cells 0 made new.old book.old }
-    ensures { Passed base room cells (each (lineBy (kind_of kind) base) (pairs_of book.old made) (map element_of (first_of (element_row 2 old.now) count))) new.old new.new book.new result }
+    ensures { Passed base room cells (each (line_by (kind_of kind) base) (pairs_of book.old made) (map element_of (first_of (element_row 2 old.now) count))) new.old new.new book.new result }
 {
     let mut rows = 0;
     let mut entries = made;
@@ -122,7 +122,7 @@ pub fn lines(
 ) -> Written
     requires count_in_bounds { 3 * count ≤ length old.now }
     requires begun { Begun 2 base room cells 0 made new.old book.old }
-    ensures { Passed base room cells (each (lineBy (kind_of kind) base) (pairs_of book.old made) (map element_of (first_of (element_row 2 old.now) count))) new.old new.new book.new result }
+    ensures { Passed base room cells (each (line_by (kind_of kind) base) (pairs_of book.old made) (map element_of (first_of (element_row 2 old.now) count))) new.old new.new book.new result }
 {
     lines_by(
         kind,

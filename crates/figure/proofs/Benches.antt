@@ -63,7 +63,7 @@ module _ (kind : Kind) (s : Sizes) (bytes : List ℕ) (b : Bench) (r : Ready kin
         room = rows_room (volume_corners kind) s.volumes (length b.volumes) r.fits.volumes;
       }
 
-  pub curves_ready : Curves bytes (curves_place kind s + 4) b.curves b.curve_vertices_of s.curves
+  pub curves_ready : Curves bytes (curves_place kind s + 4) b.curves b.curve_vertices s.curves
   unfolding cells sizes_of mesh_at
   curves_ready =
       record {
@@ -81,7 +81,7 @@ module _ (kind : Kind) (s : Sizes) (bytes : List ℕ) (b : Bench) (r : Ready kin
       → lines ≡ over b.lines (element_words (elements_at 2 bytes (lines_place s + 4) s.lines))
       → areas ≡ over b.areas (element_words (elements_at (area_corners kind) bytes (areas_place s + 4) s.areas))
       → volumes ≡ over b.volumes (element_words (elements_at (volume_corners kind) bytes (volumes_place kind s + 4) s.volumes))
-      → Winded (curves_at bytes (curves_place kind s + 4) s.curves) b.curves b.curve_vertices_of curves steps
+      → Winded (curves_at bytes (curves_place kind s + 4) s.curves) b.curves b.curve_vertices curves steps
       → bench positions marks points lines areas volumes curves steps ≡ bench_over b (bench_of (mesh_at kind s bytes))
   unfolding bench_over bench_of mesh_at
   written positions marks points lines areas volumes curves steps o p l a v w =

@@ -140,7 +140,7 @@ pub record Numbers {F : Form} (n : ℕ) (r : RowsIn F) : Type 0 where
   pub lines : T (every (λ (e : ElementRow). every (good_number n) e.corners) r.lines)
   pub areas : T (every (λ (e : ElementRow). every (good_number n) e.corners) r.areas)
   pub volumes : T (every (λ (e : ElementRow). every (good_number n) e.corners) r.volumes)
-  pub steps : T (every (λ (s : StepRow). good_number n s.vertex) r.curve_vertices_of)
+  pub steps : T (every (λ (s : StepRow). good_number n s.vertex) r.curve_vertices)
 
 pub numbers : {F : Form} (n : ℕ) (r : RowsIn F) → T (numbers_hold n r) → Numbers n r
 unfolding numbers_hold
@@ -150,7 +150,7 @@ numbers n r h =
     let l = every inside r.lines in
     let a = every inside r.areas in
     let v = every inside r.volumes in
-    let c = every (λ (s : StepRow). good_number n s.vertex) r.curve_vertices_of in
+    let c = every (λ (s : StepRow). good_number n s.vertex) r.curve_vertices in
     let h_v = and_l (p && l && a && v) c h in
     let h_a = and_l (p && l && a) v h_v in
     let h_l = and_l (p && l) a h_a in
@@ -180,7 +180,7 @@ judged kind s b room good =
     let n = s.vertices in
     let q = within_facts s (cells kind b) (true_is _ room) in
     let g = numbers n (rows_of kind s b) good in
-    let steps = (rows_of kind s b).curve_vertices_of in
+    let steps = (rows_of kind s b).curve_vertices in
     record {
       lines = elements_proper n 2 s.lines b.lines q.lines g.lines;
       areas = subst (λ (k : ℕ). All (Proper n k) (map element_of (rows_of kind s b).areas)) (area_corners_lem kind) (elements_proper n (area_corners kind) s.areas b.areas q.areas g.areas);

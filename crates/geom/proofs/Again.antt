@@ -102,7 +102,7 @@ unfolding mesh_of positions_hold
 positions_on {F} r a = every_true (λ (v : F.Vertex). good_position_in F (F.position v)) r.vertices a
 
 numbers_on :
-    {F : Form} (kind : Kind) (n : ℕ) (r : RowsIn F) → curve_lengths r.curves ≡ length r.curve_vertices_of → Below n (mesh_of r).points → Well kind n (mesh_of r).lists
+    {F : Form} (kind : Kind) (n : ℕ) (r : RowsIn F) → curve_lengths r.curves ≡ length r.curve_vertices → Below n (mesh_of r).points → Well kind n (mesh_of r).lists
     → numbers_hold n r ≡ true
 unfolding mesh_of numbers_hold
 numbers_on kind n r c points w =
@@ -111,20 +111,20 @@ numbers_on kind n r c points w =
       rows_good n 2 r.lines w.lines,
       rows_good n (face_shape kind).count r.areas w.areas,
       rows_good n (volume_shape kind).count r.volumes w.volumes,
-      steps_good n r.curve_vertices_of (steps_low n r.curves r.curve_vertices_of c w.curves),
+      steps_good n r.curve_vertices (steps_low n r.curves r.curve_vertices c w.curves),
     )
     refl
 
 curves_on : {F : Form} (r : RowsIn F) → All Some (mesh_of r).lists.curves → every good_curve r.curves ≡ true
 unfolding mesh_of
-curves_on r a = curves_good r.curves r.curve_vertices_of a
+curves_on r a = curves_good r.curves r.curve_vertices a
 
 lengths_on :
-    {F : Form} (kind : Kind) (s : Sizes) (b : BenchIn F) → counts_hold kind s b ≡ true → curve_lengths (rows_of kind s b).curves ≡ length (rows_of kind s b).curve_vertices_of
+    {F : Form} (kind : Kind) (s : Sizes) (b : BenchIn F) → counts_hold kind s b ≡ true → curve_lengths (rows_of kind s b).curves ≡ length (rows_of kind s b).curve_vertices
 unfolding counts_hold rows_of
 lengths_on kind s b e =
     same_number (curve_lengths (rows_of kind s b).curves) s.curve_vertices (and_true_right (within s (cells kind b)) _ e)
-    ∙ sym (length_first_of (step_row b.curve_vertices_of) s.curve_vertices)
+    ∙ sym (length_first_of (step_row b.curve_vertices) s.curve_vertices)
 
 -- a mesh in order and within the limits is accepted on every bench on which it stands
 pub accepted_on :
@@ -202,17 +202,17 @@ run_limits :
     {F : Form} (kind : Kind) (time : Bool) (lent : Lent) (base depth n : ℕ) (s : StateIn F) → within (sizes_of s.mesh) LIMITS ≡ true
     → within (sizes_of (run_from kind time lent base depth n s).left.mesh) LIMITS ≡ true
 unfolding run_from
-run_limits kind time lent base zero n s e = e
-run_limits {F} kind time lent base (suc depth) n s e = go (run_limits kind time lent base depth (suc n) (pass_over kind time base s)) (fits lent (pass_over kind time base s)) refl
+run_limits kind time lent from zero n s e = e
+run_limits {F} kind time lent from (suc depth) n s e = go (run_limits kind time lent from depth (suc n) (pass_over kind time from s)) (fits lent (pass_over kind time from s)) refl
   where
     next : StateIn F
-    next = pass_over kind time base s
+    next = pass_over kind time from s
 
     Fine : RunIn F → Type 0
     Fine r = within (sizes_of r.left.mesh) LIMITS ≡ true
 
-    go : (within (sizes_of next.mesh) LIMITS ≡ true → Fine (run_from kind time lent base depth (suc n) next)) → (b : Bool) → fits lent next ≡ b
-        → Fine (cond b (run_from kind time lent base depth (suc n) next) (record { passes = n; left = s; verdict = refused 10 }))
+    go : (within (sizes_of next.mesh) LIMITS ≡ true → Fine (run_from kind time lent from depth (suc n) next)) → (b : Bool) → fits lent next ≡ b
+        → Fine (cond b (run_from kind time lent from depth (suc n) next) (record { passes = n; left = s; verdict = refused 10 }))
     go onward true f = onward (fits_limits lent next f)
     go onward false f = e
 
@@ -260,7 +260,7 @@ module _ {F : Form} (nine five : Bool) (kind : Kind) (s : Sizes) (b : BenchIn F)
         positions = positions_good;
         points = subst (λ (n : ℕ). Below n r.points) e points_low;
         well = subst (λ (n : ℕ). Well kind n mesh.lists) e (judged_well nine five kind s b yes_it_is);
-        curves = good_curves r.curves r.curve_vertices_of (omega (arith, lengths_on kind s b counts_hold_lem)) curves_hold;
+        curves = good_curves r.curves r.curve_vertices (omega (arith, lengths_on kind s b counts_hold_lem)) curves_hold;
       }
 
 -- ---- the mesh that is left

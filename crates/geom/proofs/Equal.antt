@@ -20,7 +20,7 @@ pub record Same {F : Form} (x y : BenchIn F) : Type 0 where
   pub areas : length x.areas ≡ length y.areas
   pub volumes : length x.volumes ≡ length y.volumes
   pub curves : length x.curves ≡ length y.curves
-  pub curve_vertices : length x.curve_vertices_of ≡ length y.curve_vertices_of
+  pub curve_vertices : length x.curve_vertices ≡ length y.curve_vertices
 
 pub equal_facts : {F : Form} (x y : BenchIn F) → benches_equal x y ≡ true → Same x y
 unfolding benches_equal
@@ -32,7 +32,7 @@ equal_facts x y e =
     let a = eqb (length x.areas) (length y.areas) in
     let o = eqb (length x.volumes) (length y.volumes) in
     let c = eqb (length x.curves) (length y.curves) in
-    let k = eqb (length x.curve_vertices_of) (length y.curve_vertices_of) in
+    let k = eqb (length x.curve_vertices) (length y.curve_vertices) in
     let e7 : (q && m && p && l && a && o && c) ≡ true = and_true_left (q && m && p && l && a && o && c) k e in
     let e6 : (q && m && p && l && a && o) ≡ true = and_true_left (q && m && p && l && a && o) c e7 in
     let e5 : (q && m && p && l && a) ≡ true = and_true_left (q && m && p && l && a) o e6 in

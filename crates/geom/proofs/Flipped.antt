@@ -119,7 +119,7 @@ module _ {F : Form} (kind : Kind) (m : MeshIn F) (f : Formed kind m) where
         areas = begins_itself own.areas;
         volumes = begins_itself own.volumes;
         curves = begins_itself own.curves;
-        curve_vertices_of = begins_itself own.curve_vertices_of;
+        curve_vertices = begins_itself own.curve_vertices;
       })
       f (within_holds (sizes_of m) (cells kind own) own_cells)
 

@@ -151,8 +151,8 @@ module _ (kind : Kind) (s : Sizes) (b : Bench) (nine five : Bool) (e : first_due
         areas = elements_long (area_corners kind) s.areas b.areas q.areas;
         volumes = elements_long (volume_corners kind) s.volumes b.volumes q.volumes;
         curves =
-            curves_threaded r.curves r.curve_vertices_of
-            (omega (arith, accepted_sum kind s b nine five e, length_first_of (step_row b.curve_vertices_of) s.curve_vertices))
+            curves_threaded r.curves r.curve_vertices
+            (omega (arith, accepted_sum kind s b nine five e, length_first_of (step_row b.curve_vertices) s.curve_vertices))
             (accepted_curves kind s b nine five e);
       }
 

@@ -44,7 +44,7 @@ pub record Laid {F : Form} (m : MeshIn F) (b : BenchIn F) : Type 0 where
   pub areas : Begins b.areas (bench_of m).areas
   pub volumes : Begins b.volumes (bench_of m).volumes
   pub curves : Begins b.curves (bench_of m).curves
-  pub curve_vertices_of : Begins b.curve_vertices_of (bench_of m).curve_vertices_of
+  pub curve_vertices : Begins b.curve_vertices (bench_of m).curve_vertices
 
 abbrev pub Cornered : ℕ → Element → Type 0
 Cornered k e = length e.corners ≡ k
@@ -72,7 +72,7 @@ rows_for m =
       areas = map element_row_of m.lists.areas;
       volumes = map element_row_of m.lists.volumes;
       curves = map curve_row_of m.lists.curves;
-      curve_vertices_of = flat_map own_steps m.lists.curves;
+      curve_vertices = flat_map own_steps m.lists.curves;
     }
 
 pub elements_read : (k : ℕ) (es : List Element) {words : List ℕ} → Begins words (element_words es) → All (Cornered k) es
@@ -98,7 +98,7 @@ rows_laid {F} kind m b l f =
       areas = elements_read (area_corners kind) m.lists.areas l.areas f.areas i;
       volumes = elements_read (volume_corners kind) m.lists.volumes l.volumes f.volumes i;
       curves = curves_read m.lists.curves l.curves i;
-      curve_vertices_of = steps_read m.lists.curves l.curve_vertices_of i;
+      curve_vertices = steps_read m.lists.curves l.curve_vertices i;
     }
 
 mesh_own : {F : Form} (kind : Kind) (m : MeshIn F) → Formed kind m → mesh_of (rows_for m) ≡ m

@@ -34,7 +34,7 @@ pub sizes_stated : {F : Form} (kind : Kind) (s : Sizes) (b : BenchIn F) → curv
 unfolding sizes_of mesh_of rows_of
 sizes_stated {F} kind s b e =
     let cs = first_of (curve_row b.curves) s.curves in
-    let rs = first_of (step_row b.curve_vertices_of) s.curve_vertices in
+    let rs = first_of (step_row b.curve_vertices) s.curve_vertices in
     λ i.
     record {
       vertices = length_first_of (vertex_row_in F b.positions b.marks) s.vertices i;
@@ -43,5 +43,5 @@ sizes_stated {F} kind s b e =
       areas = elements_count (area_corners kind) b.areas s.areas i;
       volumes = elements_count (volume_corners kind) b.volumes s.volumes i;
       curves = (length_rows cs rs ∙ length_first_of (curve_row b.curves) s.curves) i;
-      curve_vertices = (curves_count cs rs (omega (arith, length_first_of (step_row b.curve_vertices_of) s.curve_vertices)) ∙ e) i;
+      curve_vertices = (curves_count cs rs (omega (arith, length_first_of (step_row b.curve_vertices) s.curve_vertices)) ∙ e) i;
     }

@@ -189,7 +189,7 @@ module _ (kind : Kind) (s : Sizes) (b : Bench) (words : Worded b) where
       let flags = and_l f₁ f₂ (and_l (f₁ && f₂) f₃ (and_l (f₁ && f₂ && f₃) f₄ (and_l (f₁ && f₂ && f₃ && f₄) _ marks))) in
       let judged = numbers_judged n r numbers in
       let q = within_true s (cells kind b) fit in
-      let long : length r.curve_vertices_of ≡ s.curve_vertices = length_first_of (step_row b.curve_vertices_of) s.curve_vertices in
+      let long : length r.curve_vertices ≡ s.curve_vertices = length_first_of (step_row b.curve_vertices) s.curve_vertices in
       let count = vertex_count kind s b in
       record {
         vertices = vertices_placed b n words flags positions;
@@ -199,10 +199,10 @@ module _ (kind : Kind) (s : Sizes) (b : Bench) (words : Worded b) where
         volumes = rw count (elements_cornered n (volume_corners kind) s.volumes b.volumes q.volumes judged.volumes);
         curves =
             rw count
-            (curves_strung n r.curves r.curve_vertices_of (omega arith)
+            (curves_strung n r.curves r.curve_vertices (omega arith)
             (all_first_of (λ (c : CurveRow). c.tag < 2 ^ 32) (curve_row b.curves) s.curves (λ i h. words.curves (2 * i)))
             (every_is good_curve r.curves some)
-            (every_is (λ (s : StepRow). good_number n s.vertex) r.curve_vertices_of judged.steps));
+            (every_is (λ (s : StepRow). good_number n s.vertex) r.curve_vertices judged.steps));
         limits = rw (sizes_stated kind s b sum) (within_true s LIMITS few);
       }
 

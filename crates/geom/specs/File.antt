@@ -263,7 +263,7 @@ bench_over old out =
       areas = over old.areas out.areas;
       volumes = over old.volumes out.volumes;
       curves = over old.curves out.curves;
-      curve_vertices_of = over old.curve_vertices_of out.curve_vertices_of;
+      curve_vertices = over old.curve_vertices out.curve_vertices;
     }
 
 abbrev pub loaded_by : Bench → Read Figure → Loaded

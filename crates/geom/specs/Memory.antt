@@ -30,7 +30,7 @@ pub record BenchIn (F : Form) : Type 0 where
   -- 2 words a curve: tag, vertex count
   pub curves : List ℕ
   -- 2 words a curve vertex: number, parity of the step to the next
-  pub curve_vertices_of : List ℕ
+  pub curve_vertices : List ℕ
 
 abbrev pub Bench : Type 0
 Bench = BenchIn binary32
@@ -54,7 +54,7 @@ cells kind b =
       areas = length b.areas / suc (area_corners kind);
       volumes = length b.volumes / suc (volume_corners kind);
       curves = length b.curves / 2;
-      curve_vertices = length b.curve_vertices_of / 2;
+      curve_vertices = length b.curve_vertices / 2;
     }
 
 -- ---- rows read off words
@@ -82,7 +82,7 @@ pub record RowsIn (F : Form) : Type 0 where
   pub areas : List ElementRow
   pub volumes : List ElementRow
   pub curves : List CurveRow
-  pub curve_vertices_of : List StepRow
+  pub curve_vertices : List StepRow
 
 abbrev pub Rows : Type 0
 Rows = RowsIn binary32
@@ -132,7 +132,7 @@ rows_of {F} kind s b =
       areas = first_of (element_row (area_corners kind) b.areas) s.areas;
       volumes = first_of (element_row (volume_corners kind) b.volumes) s.volumes;
       curves = first_of (curve_row b.curves) s.curves;
-      curve_vertices_of = first_of (step_row b.curve_vertices_of) s.curve_vertices;
+      curve_vertices = first_of (step_row b.curve_vertices) s.curve_vertices;
     }
 
 -- ---- the mesh that rows stand for
@@ -176,7 +176,7 @@ mesh_of r =
             lines = map element_of r.lines;
             areas = map element_of r.areas;
             volumes = map element_of r.volumes;
-            curves = curves_of r.curves r.curve_vertices_of;
+            curves = curves_of r.curves r.curve_vertices;
           };
     }
 
@@ -222,7 +222,7 @@ bench_of {F} m =
       areas = element_words m.lists.areas;
       volumes = element_words m.lists.volumes;
       curves = curve_words m.lists.curves;
-      curve_vertices_of = vertex_words m.lists.curves;
+      curve_vertices = vertex_words m.lists.curves;
     }
 
 -- a lent slice after `out` was written from its start: the cells past it stay

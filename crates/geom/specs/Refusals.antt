@@ -61,7 +61,7 @@ marks_hold {F} r =
     && every (λ (e : ElementRow). good_parity e.parity) r.lines
     && every (λ (e : ElementRow). good_parity e.parity) r.areas
     && every (λ (e : ElementRow). good_parity e.parity) r.volumes
-    && every (λ (part : List StepRow). every good_parity (step_words part)) (curve_parts r.curves r.curve_vertices_of)
+    && every (λ (part : List StepRow). every good_parity (step_words part)) (curve_parts r.curves r.curve_vertices)
 
 -- 6
 unfoldable pub positions_hold : {F : Form} → RowsIn F → Bool
@@ -74,7 +74,7 @@ numbers_hold count r =
     && every (λ (e : ElementRow). every (good_number count) e.corners) r.lines
     && every (λ (e : ElementRow). every (good_number count) e.corners) r.areas
     && every (λ (e : ElementRow). every (good_number count) e.corners) r.volumes
-    && every (λ (s : StepRow). good_number count s.vertex) r.curve_vertices_of
+    && every (λ (s : StepRow). good_number count s.vertex) r.curve_vertices
 
 -- In memory: 9, 5, 6, 7, 8, then 10 for the lists handed in. An entry may have more to ask at 9 and at 5.
 unfoldable pub handed_in : {F : Form} → Bool → Bool → Kind → Sizes → BenchIn F → List Due
@@ -113,7 +113,7 @@ benches_equal first second =
     && eqb (length first.areas) (length second.areas)
     && eqb (length first.volumes) (length second.volumes)
     && eqb (length first.curves) (length second.curves)
-    && eqb (length first.curve_vertices_of) (length second.curve_vertices_of)
+    && eqb (length first.curve_vertices) (length second.curve_vertices)
 
 -- the benches are equal, and smoothing's cells, of the sums as of the tallies, are as many as the vertices'
 unfoldable pub benches_hold : {F : Form} → Kind → DeskIn F → Bool
@@ -169,7 +169,7 @@ StandsFor kind b m =
 
 -- That word after a pass: the curve vertices of a mesh are words as `vertex_words` has them, with 0 beside a curve's last.
 unfoldable pub StepsWritten : {F : Form} → BenchIn F → MeshIn F → Type 0
-StepsWritten b m = take (length (vertex_words m.lists.curves)) b.curve_vertices_of ≡ vertex_words m.lists.curves
+StepsWritten b m = take (length (vertex_words m.lists.curves)) b.curve_vertices ≡ vertex_words m.lists.curves
 
 -- and by the number of whole passes: without one the bench is as it was, word for word
 abbrev pub LastSteps : {F : Form} → ℕ → BenchIn F → BenchIn F → MeshIn F → Type 0

@@ -110,7 +110,7 @@ module _ {F : Form} (kind : Kind) (s : Sizes) (b : BenchIn F) (e : counts_hold k
   unfolding cells
   counts_curves = omega (arith, facts.curves)
 
-  pub counts_marked : Marked kind s b.marks b.lines b.areas b.volumes b.curves b.curve_vertices_of
+  pub counts_marked : Marked kind s b.marks b.lines b.areas b.volumes b.curves b.curve_vertices
   unfolding cells counts_hold rows_of
   counts_marked =
       record {
@@ -124,7 +124,7 @@ module _ {F : Form} (kind : Kind) (s : Sizes) (b : BenchIn F) (e : counts_hold k
             };
       }
 
-  pub counts_numbered : Numbered kind s b.points b.lines b.areas b.volumes b.curve_vertices_of
+  pub counts_numbered : Numbered kind s b.points b.lines b.areas b.volumes b.curve_vertices
   unfolding cells
   counts_numbered = record { point = facts.points; listed = listed; step = omega (arith, facts.curve_vertices) }
 
@@ -181,7 +181,7 @@ pub marks_are : {F : Form} (r : RowsIn F) (f l a v p : Bool)
     → l ≡ every (λ (e : ElementRow). good_parity e.parity) r.lines
     → a ≡ every (λ (e : ElementRow). good_parity e.parity) r.areas
     → v ≡ every (λ (e : ElementRow). good_parity e.parity) r.volumes
-    → p ≡ every (λ (part : List StepRow). every good_parity (step_words part)) (curve_parts r.curves r.curve_vertices_of)
+    → p ≡ every (λ (part : List StepRow). every good_parity (step_words part)) (curve_parts r.curves r.curve_vertices)
     → (f && l && a && v && p) ≡ marks_hold r
 unfolding marks_hold
 marks_are r f l a v p pf pl pa pv pp = rw (pf, pl, pa, pv, pp) refl
@@ -191,7 +191,7 @@ pub numbers_are : {F : Form} (r : RowsIn F) (count : ℕ) (p l a v s : Bool)
     → l ≡ every (λ (e : ElementRow). every (good_number count) e.corners) r.lines
     → a ≡ every (λ (e : ElementRow). every (good_number count) e.corners) r.areas
     → v ≡ every (λ (e : ElementRow). every (good_number count) e.corners) r.volumes
-    → s ≡ every (λ (s : StepRow). good_number count s.vertex) r.curve_vertices_of
+    → s ≡ every (λ (s : StepRow). good_number count s.vertex) r.curve_vertices
     → (p && l && a && v && s) ≡ numbers_hold count r
 unfolding numbers_hold
 numbers_are r count p l a v s pp pl pa pv ps = rw (pp, pl, pa, pv, ps) refl

@@ -19,7 +19,7 @@ lengths_of b =
       areas = length b.areas;
       volumes = length b.volumes;
       curves = length b.curves;
-      curve_vertices = length b.curve_vertices_of;
+      curve_vertices = length b.curve_vertices;
     }
 
 -- lent cells: whole rows; of a list in two slices, the smaller number

@@ -23,7 +23,7 @@ bench_in F positions marks points lines areas volumes curves steps =
       areas = areas;
       volumes = volumes;
       curves = curves;
-      curve_vertices_of = steps;
+      curve_vertices = steps;
     }
 
 abbrev pub bench : List Float → List ℕ → List ℕ → List ℕ → List ℕ → List ℕ → List ℕ → List ℕ → Bench

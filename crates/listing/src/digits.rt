@@ -2,7 +2,7 @@
 ghost use Rattle.std.specs.Prelude.{◌≡◌, ◌+◌, ◌<◌, ◌≤◌, length};
 ghost use Rattle.std.specs.Float.{binary32};
 ghost use Rattle.std.specs.Float.Ieee.{to_bits};
-ghost use Rattle.geom.specs.Listing.{digit, decimal as decimalOf, hexadecimal as hexadecimalOf};
+ghost use Rattle.geom.specs.Listing.{digit, decimal as decimal_of, hexadecimal as hexadecimal_of};
 ghost use Rattle.listing.specs.Text.{Put};
 
 // The pattern that is printed for a NaN, of which there is only one.
@@ -21,7 +21,7 @@ fn glyph(value: usize) -> u8
 
 // How many decimal digits a number has.
 fn width(n: usize) -> usize
-    ensures { result ≡ length (decimalOf n) }
+    ensures { result ≡ length (decimal_of n) }
 {
     let mut rest = n;
     let mut count = 1;
@@ -34,8 +34,8 @@ fn width(n: usize) -> usize
 
 // A number in decimal, from its last digit to its first. Answers the place after it.
 pub fn decimal(n: usize, out: &mut [u8], at: usize) -> usize
-    requires { at + length (decimalOf n) ≤ length out.old }
-    ensures { Put at (decimalOf n) out.old out.new result }
+    requires { at + length (decimal_of n) ≤ length out.old }
+    ensures { Put at (decimal_of n) out.old out.new result }
 {
     let end = at + width(n);
     let mut rest = n;
@@ -52,7 +52,7 @@ pub fn decimal(n: usize, out: &mut [u8], at: usize) -> usize
 // 8 hexadecimal digits, in capitals.
 pub fn hexadecimal(bits: usize, out: &mut [u8], at: usize) -> usize
     requires { at + 8 ≤ length out.old }
-    ensures { Put at (hexadecimalOf bits) out.old out.new result }
+    ensures { Put at (hexadecimal_of bits) out.old out.new result }
 {
     let mut i = 0;
     while i < 8 {

@@ -1,6 +1,6 @@
 // Document 01, section 8: the lines of the listing. Each function writes its text into a lent buffer from a place on, and answers the place after it.
 ghost use Rattle.std.specs.Prelude.{◌≡◌, [], ◌∷◌, ◌+◌, ◌-◌, ◌*◌, ◌≤◌, length};
-ghost use Rattle.geom.specs.Listing.{decimal as decimalOf, letter as letterOf, spaced as spacedWord, bits};
+ghost use Rattle.geom.specs.Listing.{decimal as decimal_of, letter as letter_of, spaced as spaced_word, bits};
 ghost use Rattle.geom.specs.Memory.{first_of, curve_row, parity_of};
 ghost use Rattle.geom.specs.Refusals.{curve_lengths};
 ghost use Rattle.judge.specs.Words.{Column, Elements};
@@ -37,8 +37,8 @@ pub fn say(text: &[u8], out: &mut [u8], at: usize) -> usize
 
 // A number after a space.
 pub fn spaced(n: usize, out: &mut [u8], at: usize) -> usize
-    requires { at + length (spacedWord (decimalOf n)) ≤ length out.old }
-    ensures { Put at (spacedWord (decimalOf n)) out.old out.new result }
+    requires { at + length (spaced_word (decimal_of n)) ≤ length out.old }
+    ensures { Put at (spaced_word (decimal_of n)) out.old out.new result }
 {
     let next = byte(SPACE, out, at);
     decimal(n, out, next)
@@ -119,8 +119,8 @@ fn numbers(
 
 // e or o, for the parity that a word stands for.
 fn letter(word: usize, out: &mut [u8], at: usize) -> usize
-    requires { at + length (letterOf (parity_of word)) ≤ length out.old }
-    ensures { Put at (letterOf (parity_of word)) out.old out.new result }
+    requires { at + length (letter_of (parity_of word)) ≤ length out.old }
+    ensures { Put at (letter_of (parity_of word)) out.old out.new result }
 {
     let next = byte(SPACE, out, at);
     if word == 0 {

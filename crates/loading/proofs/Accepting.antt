@@ -35,7 +35,7 @@ laid m old =
       areas = over_begins old.areas (bench_of m).areas refl;
       volumes = over_begins old.volumes (bench_of m).volumes refl;
       curves = over_begins old.curves (bench_of m).curves refl;
-      curve_vertices_of = over_begins old.curve_vertices_of (bench_of m).curve_vertices_of refl;
+      curve_vertices = over_begins old.curve_vertices (bench_of m).curve_vertices refl;
     }
 
 -- ---- tests over the rows of a mesh
@@ -101,7 +101,7 @@ module _ (kind : Kind) (m : Mesh) (b : Bench) (l : Laid m b) (f : Fine kind (cel
       (sym (ap (every (λ (e : ElementRow). every (good_number n) e.corners)) (elements_read (area_corners kind) m.lists.areas l.areas f.formed.areas) ∙ elements_numbered n m.lists.areas f.areas))
       (sym (ap (every (λ (e : ElementRow). every (good_number n) e.corners)) (elements_read (volume_corners kind) m.lists.volumes l.volumes f.formed.volumes) ∙ elements_numbered n m.lists.volumes f.volumes))
       (sym
-      (ap (every (λ (s : StepRow). good_number n s.vertex)) (steps_read m.lists.curves l.curve_vertices_of)
+      (ap (every (λ (s : StepRow). good_number n s.vertex)) (steps_read m.lists.curves l.curve_vertices)
       ∙ every_true (λ (s : StepRow). good_number n s.vertex) (flat_map own_steps m.lists.curves) (curves_numbered n m.lists.curves f.curves))))
 
   curves_hold : every good_curve rows.curves ≡ true

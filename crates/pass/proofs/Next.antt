@@ -58,7 +58,7 @@ length_curves kind base (c ∷ cs) book =
 
 -- the lists' slices of a bench
 abbrev pub slices_of : {F : Form} → BenchIn F → Slices
-slices_of b = slices b.lines b.areas b.volumes b.curves b.curve_vertices_of
+slices_of b = slices b.lines b.areas b.volumes b.curves b.curve_vertices
 
 module _ {F : Form} (kind : Kind) (base : ℕ) (s : Sizes) (a : BenchIn F) (book : List ℕ) (made : ℕ) where
   abbrev pub next : Bool → StateIn F
@@ -81,7 +81,7 @@ module _ {F : Form} (kind : Kind) (base : ℕ) (s : Sizes) (a : BenchIn F) (book
   pub curves_stay : length w.lists.curves ≡ s.curves
   unfolding pass_by
   curves_stay =
-      ap (λ (x : Went). length x.lists.curves) (pass_is kind base _) ∙ length_curves kind base _ _ ∙ length_rows (first_of (curve_row a.curves) s.curves) (first_of (step_row a.curve_vertices_of) s.curve_vertices) ∙ length_first_of (curve_row a.curves) s.curves
+      ap (λ (x : Went). length x.lists.curves) (pass_is kind base _) ∙ length_curves kind base _ _ ∙ length_rows (first_of (curve_row a.curves) s.curves) (first_of (step_row a.curve_vertices) s.curve_vertices) ∙ length_first_of (curve_row a.curves) s.curves
 
   module _ (h : Held kind base s a book made) where
     -- what the pass adds to the book are pairs of the vertices that stood

@@ -189,7 +189,7 @@ module _ {F : Form} {kind : Kind} {base room : ℕ} {s c : Sizes} {a b : BenchIn
             areas = after.areas;
             volumes = after.volumes;
             curves = after.curves;
-            curve_vertices_of = after.steps;
+            curve_vertices = after.steps;
           }
 
       laid : Vertices.OverIn F b.positions b.marks (smoothed_in F kind time (w kind base s a book made).lists (with_midpoints_in F (olds kind base s a book made) (news kind base s a book made))) positions marks
@@ -210,7 +210,7 @@ module _ {F : Form} {kind : Kind} {base room : ℕ} {s c : Sizes} {a b : BenchIn
             areas = over_begins _ _ o.areas;
             volumes = over_begins _ _ o.volumes;
             curves = over_begins _ _ o.curves;
-            curve_vertices_of = over_begins _ _ o.steps;
+            curve_vertices = over_begins _ _ o.steps;
           }
 
       standing : cells kind other ≡ cells kind b → StandsFor kind other (next kind base s a book made time).mesh
@@ -241,7 +241,7 @@ module _ {F : Form} {kind : Kind} {base room : ℕ} {s c : Sizes} {a b : BenchIn
                   good = subst (Good kind base) (sym (ap went state ∙ went_next)) (next_good h l m);
                 };
             state = state;
-            steps = begins_take next_laid.curve_vertices_of;
+            steps = begins_take next_laid.curve_vertices;
           }
 
       pub passed_whole : cells kind other ≡ cells kind b → Passed kind base (lent_of kind a book) (next kind base s a book made time) other book₂ (Whole t e)
@@ -260,7 +260,7 @@ module _ {F : Form} {kind : Kind} {base room : ℕ} {s c : Sizes} {a b : BenchIn
 pub cells_same :
     {F : Form} (kind : Kind) (x y : BenchIn F) → length x.positions ≡ length y.positions → length x.marks ≡ length y.marks → length x.points ≡ length y.points
     → length x.lines ≡ length y.lines → length x.areas ≡ length y.areas → length x.volumes ≡ length y.volumes
-    → length x.curves ≡ length y.curves → length x.curve_vertices_of ≡ length y.curve_vertices_of → cells kind x ≡ cells kind y
+    → length x.curves ≡ length y.curves → length x.curve_vertices ≡ length y.curve_vertices → cells kind x ≡ cells kind y
 unfolding cells
 cells_same kind x y p m o l a v c s =
     λ i.

@@ -116,7 +116,7 @@ module _
       in
       let e6 = ap (λ (w : List ℕ). first_of (curve_row w) s.curves) c ∙ curves_part curves s.curves in
       let e7 = ap (λ (w : List ℕ). first_of (step_row w) s.curve_vertices) t ∙ steps_part steps s.curve_vertices in
-      λ j. record { vertices = e1 j; points = e2 j; lines = e3 j; areas = e4 j; volumes = e5 j; curves = e6 j; curve_vertices_of = e7 j }
+      λ j. record { vertices = e1 j; points = e2 j; lines = e3 j; areas = e4 j; volumes = e5 j; curves = e6 j; curve_vertices = e7 j }
 
   pub listed_handed :
       (marks : List ℕ)

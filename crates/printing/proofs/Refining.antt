@@ -41,7 +41,7 @@ use Rattle.printing.proofs.Held.{run_kept, run_short}
 abbrev sides : ℕ → Bench → Bench → Bench
 sides n x y =
     bench (side n x.positions y.positions) (side n x.marks y.marks) (side n x.points y.points) (side n x.lines y.lines)
-    (side n x.areas y.areas) (side n x.volumes y.volumes) (side n x.curves y.curves) (side n x.curve_vertices_of y.curve_vertices_of)
+    (side n x.areas y.areas) (side n x.volumes y.volumes) (side n x.curves y.curves) (side n x.curve_vertices y.curve_vertices)
 
 side_bench : (n : ℕ) (x y : Bench) → sides n x y ≡ side n x y
 unfolding side
@@ -49,7 +49,7 @@ side_bench n x y = go (eqb (n % 2) 0)
   where
     go : (t : Bool)
         → bench (cond t x.positions y.positions) (cond t x.marks y.marks) (cond t x.points y.points) (cond t x.lines y.lines)
-        (cond t x.areas y.areas) (cond t x.volumes y.volumes) (cond t x.curves y.curves) (cond t x.curve_vertices_of y.curve_vertices_of)
+        (cond t x.areas y.areas) (cond t x.volumes y.volumes) (cond t x.curves y.curves) (cond t x.curve_vertices y.curve_vertices)
         ≡ cond t x y
     go true = refl
     go false = refl
@@ -168,7 +168,7 @@ module _
   unfolding mesh_of
   stepped =
       let w = rows_of kind r.sizes left in
-      subst (λ (x : Mesh). All Stepped x.lists.curves) mesh_is (rows_stepped w.curves w.curve_vertices_of)
+      subst (λ (x : Mesh). All Stepped x.lists.curves) mesh_is (rows_stepped w.curves w.curve_vertices)
 
   points : Below (length mesh.vertices) mesh.points
   unfolding mesh_of refinement_verdict handed_in
@@ -192,7 +192,7 @@ module _
 
   pub lists_left :
       depth < 256
-      → Stated r.passes kind r.sizes left.positions left.points left.lines left.areas left.volumes left.curves left.curve_vertices_of out
+      → Stated r.passes kind r.sizes left.positions left.points left.lines left.areas left.volumes left.curves left.curve_vertices out
   lists_left deep =
       let k = run_kept kind (eqb time 1) SHEET_LENT depth mesh (within_facts (sizes_of mesh) SHEET_CELLS h.cells) in
       let marked = counts_marked kind r.sizes left counts in
@@ -208,7 +208,7 @@ module _
               small,
               h.lent.room,
               ap length
-                  (any_marks r.passes kind r.sizes left.positions left.points left.lines left.areas left.volumes left.curves left.curve_vertices_of marked.parts [] left.marks
+                  (any_marks r.passes kind r.sizes left.positions left.points left.lines left.areas left.volumes left.curves left.curve_vertices marked.parts [] left.marks
                   ∙ ap (listing r.passes) mesh_is
                   ∙ ap (λ (n : ℕ). listing n run_of.left.mesh) passes_is),
             );

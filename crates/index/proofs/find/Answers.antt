@@ -58,7 +58,7 @@ returns-then-not-believed c =
     let h = c.bucket-home in
     let r = c.word_at-root in
     let t = c.believed in
-    ends_bare p h.ensures r.ensures (subst (Believed s.words.now s.made h.result r.result) (not-true t.result c.if-not-believed.true-raw) t.ensures)
+    ends_bare p h.ensures r.ensures (subst (Believed s.words.now s.made h.result r.result) (c.if-not-believed.true) t.ensures)
 
 pub loop-first-init : goal.loop-first-init
 loop-first-init c =
@@ -67,7 +67,7 @@ loop-first-init c =
     let h = c.bucket-home in
     let r = c.word_at-root in
     let t = c.believed in
-    let n = subst (Believed s.words.now s.made h.result r.result) (not-false t.result c.if-not-believed.false-raw) t.ensures in
+    let n = subst (Believed s.words.now s.made h.result r.result) (c.if-not-believed.false) t.ensures in
     begin p h.ensures r.ensures n.0 n.1
 
 pub word_at-first-requires : goal.word_at-first-requires

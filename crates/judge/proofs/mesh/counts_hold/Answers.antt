@@ -6,10 +6,10 @@ use Rattle.judge.proofs.Verdicts.{lent_told, curves_room, counts_off, counts_on}
 use Rattle.judge.proofs.mesh.counts_hold.Goals as goal
 
 pub returns-then-not-within : goal.returns-then-not-within
-returns-then-not-within c = λ F b e q. counts_off _ _ _ _ b e q (lent_told _ _ _ _ c.cells-lent.ensures _ c.within.ensures ∙ not-true _ c.if-not-within.true-raw)
+returns-then-not-within c = λ F b e q. counts_off _ _ _ _ b e q (lent_told _ _ _ _ c.cells-lent.ensures _ c.within.ensures ∙ c.if-not-within.true)
 
 pub lengths_hold-requires : goal.lengths_hold-requires
-lengths_hold-requires c = curves_room _ _ _ _ (lent_told _ _ _ _ c.cells-lent.ensures _ c.within.ensures ∙ not-false _ c.if-not-within.false-raw) c.requires
+lengths_hold-requires c = curves_room _ _ _ _ (lent_told _ _ _ _ c.cells-lent.ensures _ c.within.ensures ∙ c.if-not-within.false) c.requires
 
 pub returns : goal.returns
-returns c = λ F b e q. counts_on _ _ _ _ b e q _ (lent_told _ _ _ _ c.cells-lent.ensures _ c.within.ensures ∙ not-false _ c.if-not-within.false-raw) c.lengths_hold.ensures
+returns c = λ F b e q. counts_on _ _ _ _ b e q _ (lent_told _ _ _ _ c.cells-lent.ensures _ c.within.ensures ∙ c.if-not-within.false) c.lengths_hold.ensures

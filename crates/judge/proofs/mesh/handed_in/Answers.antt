@@ -15,48 +15,48 @@ use Rattle.judge.proofs.mesh.handed_in.Goals as goal
 
 pub returns-then-not-counts_hold : goal.returns-then-not-counts_hold
 unfolding verdict_of
-returns-then-not-counts_hold c = due_counts (kind_of c.args.kind) c.args.sizes (bench c.args.positions.now c.args.marks.now c.args.points.now c.args.lines.now c.args.areas.now c.args.volumes.now c.args.curves.now c.args.steps.now) c.args.nine c.args.five (sym (c.counts_hold.ensures floats (bench c.args.positions.now c.args.marks.now c.args.points.now c.args.lines.now c.args.areas.now c.args.volumes.now c.args.curves.now c.args.steps.now) refl refl) ∙ not-true _ c.if-not-counts_hold.true-raw)
+returns-then-not-counts_hold c = due_counts (kind_of c.args.kind) c.args.sizes (bench c.args.positions.now c.args.marks.now c.args.points.now c.args.lines.now c.args.areas.now c.args.volumes.now c.args.curves.now c.args.steps.now) c.args.nine c.args.five (sym (c.counts_hold.ensures floats (bench c.args.positions.now c.args.marks.now c.args.points.now c.args.lines.now c.args.areas.now c.args.volumes.now c.args.curves.now c.args.steps.now) refl refl) ∙ c.if-not-counts_hold.true)
 
 pub returns-then-not-nine : goal.returns-then-not-nine
 unfolding verdict_of
-returns-then-not-nine c = due_benches (kind_of c.args.kind) c.args.sizes (bench c.args.positions.now c.args.marks.now c.args.points.now c.args.lines.now c.args.areas.now c.args.volumes.now c.args.curves.now c.args.steps.now) c.args.nine c.args.five (sym (c.counts_hold.ensures floats (bench c.args.positions.now c.args.marks.now c.args.points.now c.args.lines.now c.args.areas.now c.args.volumes.now c.args.curves.now c.args.steps.now) refl refl) ∙ not-false _ c.if-not-counts_hold.false-raw) (not-true _ c.if-not-nine.true-raw)
+returns-then-not-nine c = due_benches (kind_of c.args.kind) c.args.sizes (bench c.args.positions.now c.args.marks.now c.args.points.now c.args.lines.now c.args.areas.now c.args.volumes.now c.args.curves.now c.args.steps.now) c.args.nine c.args.five (sym (c.counts_hold.ensures floats (bench c.args.positions.now c.args.marks.now c.args.points.now c.args.lines.now c.args.areas.now c.args.volumes.now c.args.curves.now c.args.steps.now) refl refl) ∙ c.if-not-counts_hold.false) (c.if-not-nine.true)
 
 pub marks_hold-requires : goal.marks_hold-requires
-marks_hold-requires c = counts_marked (kind_of c.args.kind) c.args.sizes (bench c.args.positions.now c.args.marks.now c.args.points.now c.args.lines.now c.args.areas.now c.args.volumes.now c.args.curves.now c.args.steps.now) (sym (c.counts_hold.ensures floats (bench c.args.positions.now c.args.marks.now c.args.points.now c.args.lines.now c.args.areas.now c.args.volumes.now c.args.curves.now c.args.steps.now) refl refl) ∙ not-false _ c.if-not-counts_hold.false-raw)
+marks_hold-requires c = counts_marked (kind_of c.args.kind) c.args.sizes (bench c.args.positions.now c.args.marks.now c.args.points.now c.args.lines.now c.args.areas.now c.args.volumes.now c.args.curves.now c.args.steps.now) (sym (c.counts_hold.ensures floats (bench c.args.positions.now c.args.marks.now c.args.points.now c.args.lines.now c.args.areas.now c.args.volumes.now c.args.curves.now c.args.steps.now) refl refl) ∙ c.if-not-counts_hold.false)
 
 pub returns-then-not-marks_hold : goal.returns-then-not-marks_hold
 unfolding verdict_of
-returns-then-not-marks_hold c = due_marks (kind_of c.args.kind) c.args.sizes (bench c.args.positions.now c.args.marks.now c.args.points.now c.args.lines.now c.args.areas.now c.args.volumes.now c.args.curves.now c.args.steps.now) c.args.nine c.args.five (sym (c.counts_hold.ensures floats (bench c.args.positions.now c.args.marks.now c.args.points.now c.args.lines.now c.args.areas.now c.args.volumes.now c.args.curves.now c.args.steps.now) refl refl) ∙ not-false _ c.if-not-counts_hold.false-raw) (not-false _ c.if-not-nine.false-raw) (sym (c.marks_hold.ensures floats c.args.positions.now c.args.points.now) ∙ not-true _ c.if-not-marks_hold.true-raw)
+returns-then-not-marks_hold c = due_marks (kind_of c.args.kind) c.args.sizes (bench c.args.positions.now c.args.marks.now c.args.points.now c.args.lines.now c.args.areas.now c.args.volumes.now c.args.curves.now c.args.steps.now) c.args.nine c.args.five (sym (c.counts_hold.ensures floats (bench c.args.positions.now c.args.marks.now c.args.points.now c.args.lines.now c.args.areas.now c.args.volumes.now c.args.curves.now c.args.steps.now) refl refl) ∙ c.if-not-counts_hold.false) (c.if-not-nine.false) (sym (c.marks_hold.ensures floats c.args.positions.now c.args.points.now) ∙ c.if-not-marks_hold.true)
 
 pub returns-then-not-five : goal.returns-then-not-five
 unfolding verdict_of
-returns-then-not-five c = due_time (kind_of c.args.kind) c.args.sizes (bench c.args.positions.now c.args.marks.now c.args.points.now c.args.lines.now c.args.areas.now c.args.volumes.now c.args.curves.now c.args.steps.now) c.args.nine c.args.five (sym (c.counts_hold.ensures floats (bench c.args.positions.now c.args.marks.now c.args.points.now c.args.lines.now c.args.areas.now c.args.volumes.now c.args.curves.now c.args.steps.now) refl refl) ∙ not-false _ c.if-not-counts_hold.false-raw) (not-false _ c.if-not-nine.false-raw) (sym (c.marks_hold.ensures floats c.args.positions.now c.args.points.now) ∙ not-false _ c.if-not-marks_hold.false-raw) (not-true _ c.if-not-five.true-raw)
+returns-then-not-five c = due_time (kind_of c.args.kind) c.args.sizes (bench c.args.positions.now c.args.marks.now c.args.points.now c.args.lines.now c.args.areas.now c.args.volumes.now c.args.curves.now c.args.steps.now) c.args.nine c.args.five (sym (c.counts_hold.ensures floats (bench c.args.positions.now c.args.marks.now c.args.points.now c.args.lines.now c.args.areas.now c.args.volumes.now c.args.curves.now c.args.steps.now) refl refl) ∙ c.if-not-counts_hold.false) (c.if-not-nine.false) (sym (c.marks_hold.ensures floats c.args.positions.now c.args.points.now) ∙ c.if-not-marks_hold.false) (c.if-not-five.true)
 
 pub positions_hold-requires : goal.positions_hold-requires
-positions_hold-requires c = counts_positions (kind_of c.args.kind) c.args.sizes (bench c.args.positions.now c.args.marks.now c.args.points.now c.args.lines.now c.args.areas.now c.args.volumes.now c.args.curves.now c.args.steps.now) (sym (c.counts_hold.ensures floats (bench c.args.positions.now c.args.marks.now c.args.points.now c.args.lines.now c.args.areas.now c.args.volumes.now c.args.curves.now c.args.steps.now) refl refl) ∙ not-false _ c.if-not-counts_hold.false-raw)
+positions_hold-requires c = counts_positions (kind_of c.args.kind) c.args.sizes (bench c.args.positions.now c.args.marks.now c.args.points.now c.args.lines.now c.args.areas.now c.args.volumes.now c.args.curves.now c.args.steps.now) (sym (c.counts_hold.ensures floats (bench c.args.positions.now c.args.marks.now c.args.points.now c.args.lines.now c.args.areas.now c.args.volumes.now c.args.curves.now c.args.steps.now) refl refl) ∙ c.if-not-counts_hold.false)
 
 pub returns-then-not-positions_hold : goal.returns-then-not-positions_hold
 unfolding positions_hold rows_of verdict_of
-returns-then-not-positions_hold c = due_positions (kind_of c.args.kind) c.args.sizes (bench c.args.positions.now c.args.marks.now c.args.points.now c.args.lines.now c.args.areas.now c.args.volumes.now c.args.curves.now c.args.steps.now) c.args.nine c.args.five (sym (c.counts_hold.ensures floats (bench c.args.positions.now c.args.marks.now c.args.points.now c.args.lines.now c.args.areas.now c.args.volumes.now c.args.curves.now c.args.steps.now) refl refl) ∙ not-false _ c.if-not-counts_hold.false-raw) (not-false _ c.if-not-nine.false-raw) (sym (c.marks_hold.ensures floats c.args.positions.now c.args.points.now) ∙ not-false _ c.if-not-marks_hold.false-raw) (not-false _ c.if-not-five.false-raw) (sym (c.positions_hold.ensures c.args.marks.now) ∙ not-true _ c.if-not-positions_hold.true-raw)
+returns-then-not-positions_hold c = due_positions (kind_of c.args.kind) c.args.sizes (bench c.args.positions.now c.args.marks.now c.args.points.now c.args.lines.now c.args.areas.now c.args.volumes.now c.args.curves.now c.args.steps.now) c.args.nine c.args.five (sym (c.counts_hold.ensures floats (bench c.args.positions.now c.args.marks.now c.args.points.now c.args.lines.now c.args.areas.now c.args.volumes.now c.args.curves.now c.args.steps.now) refl refl) ∙ c.if-not-counts_hold.false) (c.if-not-nine.false) (sym (c.marks_hold.ensures floats c.args.positions.now c.args.points.now) ∙ c.if-not-marks_hold.false) (c.if-not-five.false) (sym (c.positions_hold.ensures c.args.marks.now) ∙ c.if-not-positions_hold.true)
 
 pub numbers_hold-requires : goal.numbers_hold-requires
-numbers_hold-requires c = counts_numbered (kind_of c.args.kind) c.args.sizes (bench c.args.positions.now c.args.marks.now c.args.points.now c.args.lines.now c.args.areas.now c.args.volumes.now c.args.curves.now c.args.steps.now) (sym (c.counts_hold.ensures floats (bench c.args.positions.now c.args.marks.now c.args.points.now c.args.lines.now c.args.areas.now c.args.volumes.now c.args.curves.now c.args.steps.now) refl refl) ∙ not-false _ c.if-not-counts_hold.false-raw)
+numbers_hold-requires c = counts_numbered (kind_of c.args.kind) c.args.sizes (bench c.args.positions.now c.args.marks.now c.args.points.now c.args.lines.now c.args.areas.now c.args.volumes.now c.args.curves.now c.args.steps.now) (sym (c.counts_hold.ensures floats (bench c.args.positions.now c.args.marks.now c.args.points.now c.args.lines.now c.args.areas.now c.args.volumes.now c.args.curves.now c.args.steps.now) refl refl) ∙ c.if-not-counts_hold.false)
 
 pub returns-then-not-numbers_hold : goal.returns-then-not-numbers_hold
 unfolding positions_hold rows_of verdict_of
-returns-then-not-numbers_hold c = due_numbers (kind_of c.args.kind) c.args.sizes (bench c.args.positions.now c.args.marks.now c.args.points.now c.args.lines.now c.args.areas.now c.args.volumes.now c.args.curves.now c.args.steps.now) c.args.nine c.args.five (sym (c.counts_hold.ensures floats (bench c.args.positions.now c.args.marks.now c.args.points.now c.args.lines.now c.args.areas.now c.args.volumes.now c.args.curves.now c.args.steps.now) refl refl) ∙ not-false _ c.if-not-counts_hold.false-raw) (not-false _ c.if-not-nine.false-raw) (sym (c.marks_hold.ensures floats c.args.positions.now c.args.points.now) ∙ not-false _ c.if-not-marks_hold.false-raw) (not-false _ c.if-not-five.false-raw) (sym (c.positions_hold.ensures c.args.marks.now) ∙ not-false _ c.if-not-positions_hold.false-raw) (sym (c.numbers_hold.ensures floats c.args.positions.now c.args.marks.now c.args.curves.now) ∙ not-true _ c.if-not-numbers_hold.true-raw)
+returns-then-not-numbers_hold c = due_numbers (kind_of c.args.kind) c.args.sizes (bench c.args.positions.now c.args.marks.now c.args.points.now c.args.lines.now c.args.areas.now c.args.volumes.now c.args.curves.now c.args.steps.now) c.args.nine c.args.five (sym (c.counts_hold.ensures floats (bench c.args.positions.now c.args.marks.now c.args.points.now c.args.lines.now c.args.areas.now c.args.volumes.now c.args.curves.now c.args.steps.now) refl refl) ∙ c.if-not-counts_hold.false) (c.if-not-nine.false) (sym (c.marks_hold.ensures floats c.args.positions.now c.args.points.now) ∙ c.if-not-marks_hold.false) (c.if-not-five.false) (sym (c.positions_hold.ensures c.args.marks.now) ∙ c.if-not-positions_hold.false) (sym (c.numbers_hold.ensures floats c.args.positions.now c.args.marks.now c.args.curves.now) ∙ c.if-not-numbers_hold.true)
 
 pub curves_hold-requires : goal.curves_hold-requires
-curves_hold-requires c = counts_curves (kind_of c.args.kind) c.args.sizes (bench c.args.positions.now c.args.marks.now c.args.points.now c.args.lines.now c.args.areas.now c.args.volumes.now c.args.curves.now c.args.steps.now) (sym (c.counts_hold.ensures floats (bench c.args.positions.now c.args.marks.now c.args.points.now c.args.lines.now c.args.areas.now c.args.volumes.now c.args.curves.now c.args.steps.now) refl refl) ∙ not-false _ c.if-not-counts_hold.false-raw)
+curves_hold-requires c = counts_curves (kind_of c.args.kind) c.args.sizes (bench c.args.positions.now c.args.marks.now c.args.points.now c.args.lines.now c.args.areas.now c.args.volumes.now c.args.curves.now c.args.steps.now) (sym (c.counts_hold.ensures floats (bench c.args.positions.now c.args.marks.now c.args.points.now c.args.lines.now c.args.areas.now c.args.volumes.now c.args.curves.now c.args.steps.now) refl refl) ∙ c.if-not-counts_hold.false)
 
 pub returns-then-not-curves_hold : goal.returns-then-not-curves_hold
 unfolding positions_hold rows_of verdict_of
-returns-then-not-curves_hold c = due_curves (kind_of c.args.kind) c.args.sizes (bench c.args.positions.now c.args.marks.now c.args.points.now c.args.lines.now c.args.areas.now c.args.volumes.now c.args.curves.now c.args.steps.now) c.args.nine c.args.five (sym (c.counts_hold.ensures floats (bench c.args.positions.now c.args.marks.now c.args.points.now c.args.lines.now c.args.areas.now c.args.volumes.now c.args.curves.now c.args.steps.now) refl refl) ∙ not-false _ c.if-not-counts_hold.false-raw) (not-false _ c.if-not-nine.false-raw) (sym (c.marks_hold.ensures floats c.args.positions.now c.args.points.now) ∙ not-false _ c.if-not-marks_hold.false-raw) (not-false _ c.if-not-five.false-raw) (sym (c.positions_hold.ensures c.args.marks.now) ∙ not-false _ c.if-not-positions_hold.false-raw) (sym (c.numbers_hold.ensures floats c.args.positions.now c.args.marks.now c.args.curves.now) ∙ not-false _ c.if-not-numbers_hold.false-raw) (sym c.curves_hold.ensures ∙ not-true _ c.if-not-curves_hold.true-raw)
+returns-then-not-curves_hold c = due_curves (kind_of c.args.kind) c.args.sizes (bench c.args.positions.now c.args.marks.now c.args.points.now c.args.lines.now c.args.areas.now c.args.volumes.now c.args.curves.now c.args.steps.now) c.args.nine c.args.five (sym (c.counts_hold.ensures floats (bench c.args.positions.now c.args.marks.now c.args.points.now c.args.lines.now c.args.areas.now c.args.volumes.now c.args.curves.now c.args.steps.now) refl refl) ∙ c.if-not-counts_hold.false) (c.if-not-nine.false) (sym (c.marks_hold.ensures floats c.args.positions.now c.args.points.now) ∙ c.if-not-marks_hold.false) (c.if-not-five.false) (sym (c.positions_hold.ensures c.args.marks.now) ∙ c.if-not-positions_hold.false) (sym (c.numbers_hold.ensures floats c.args.positions.now c.args.marks.now c.args.curves.now) ∙ c.if-not-numbers_hold.false) (sym c.curves_hold.ensures ∙ c.if-not-curves_hold.true)
 
 pub returns-then-not-limits_hold : goal.returns-then-not-limits_hold
 unfolding positions_hold rows_of verdict_of
-returns-then-not-limits_hold c = due_limits (kind_of c.args.kind) c.args.sizes (bench c.args.positions.now c.args.marks.now c.args.points.now c.args.lines.now c.args.areas.now c.args.volumes.now c.args.curves.now c.args.steps.now) c.args.nine c.args.five (sym (c.counts_hold.ensures floats (bench c.args.positions.now c.args.marks.now c.args.points.now c.args.lines.now c.args.areas.now c.args.volumes.now c.args.curves.now c.args.steps.now) refl refl) ∙ not-false _ c.if-not-counts_hold.false-raw) (not-false _ c.if-not-nine.false-raw) (sym (c.marks_hold.ensures floats c.args.positions.now c.args.points.now) ∙ not-false _ c.if-not-marks_hold.false-raw) (not-false _ c.if-not-five.false-raw) (sym (c.positions_hold.ensures c.args.marks.now) ∙ not-false _ c.if-not-positions_hold.false-raw) (sym (c.numbers_hold.ensures floats c.args.positions.now c.args.marks.now c.args.curves.now) ∙ not-false _ c.if-not-numbers_hold.false-raw) (sym c.curves_hold.ensures ∙ not-false _ c.if-not-curves_hold.false-raw) (sym c.limits_hold.ensures ∙ not-true _ c.if-not-limits_hold.true-raw)
+returns-then-not-limits_hold c = due_limits (kind_of c.args.kind) c.args.sizes (bench c.args.positions.now c.args.marks.now c.args.points.now c.args.lines.now c.args.areas.now c.args.volumes.now c.args.curves.now c.args.steps.now) c.args.nine c.args.five (sym (c.counts_hold.ensures floats (bench c.args.positions.now c.args.marks.now c.args.points.now c.args.lines.now c.args.areas.now c.args.volumes.now c.args.curves.now c.args.steps.now) refl refl) ∙ c.if-not-counts_hold.false) (c.if-not-nine.false) (sym (c.marks_hold.ensures floats c.args.positions.now c.args.points.now) ∙ c.if-not-marks_hold.false) (c.if-not-five.false) (sym (c.positions_hold.ensures c.args.marks.now) ∙ c.if-not-positions_hold.false) (sym (c.numbers_hold.ensures floats c.args.positions.now c.args.marks.now c.args.curves.now) ∙ c.if-not-numbers_hold.false) (sym c.curves_hold.ensures ∙ c.if-not-curves_hold.false) (sym c.limits_hold.ensures ∙ c.if-not-limits_hold.true)
 
 pub returns : goal.returns
 unfolding positions_hold rows_of verdict_of
-returns c = due_none (kind_of c.args.kind) c.args.sizes (bench c.args.positions.now c.args.marks.now c.args.points.now c.args.lines.now c.args.areas.now c.args.volumes.now c.args.curves.now c.args.steps.now) c.args.nine c.args.five (sym (c.counts_hold.ensures floats (bench c.args.positions.now c.args.marks.now c.args.points.now c.args.lines.now c.args.areas.now c.args.volumes.now c.args.curves.now c.args.steps.now) refl refl) ∙ not-false _ c.if-not-counts_hold.false-raw) (not-false _ c.if-not-nine.false-raw) (sym (c.marks_hold.ensures floats c.args.positions.now c.args.points.now) ∙ not-false _ c.if-not-marks_hold.false-raw) (not-false _ c.if-not-five.false-raw) (sym (c.positions_hold.ensures c.args.marks.now) ∙ not-false _ c.if-not-positions_hold.false-raw) (sym (c.numbers_hold.ensures floats c.args.positions.now c.args.marks.now c.args.curves.now) ∙ not-false _ c.if-not-numbers_hold.false-raw) (sym c.curves_hold.ensures ∙ not-false _ c.if-not-curves_hold.false-raw) (sym c.limits_hold.ensures ∙ not-false _ c.if-not-limits_hold.false-raw)
+returns c = due_none (kind_of c.args.kind) c.args.sizes (bench c.args.positions.now c.args.marks.now c.args.points.now c.args.lines.now c.args.areas.now c.args.volumes.now c.args.curves.now c.args.steps.now) c.args.nine c.args.five (sym (c.counts_hold.ensures floats (bench c.args.positions.now c.args.marks.now c.args.points.now c.args.lines.now c.args.areas.now c.args.volumes.now c.args.curves.now c.args.steps.now) refl refl) ∙ c.if-not-counts_hold.false) (c.if-not-nine.false) (sym (c.marks_hold.ensures floats c.args.positions.now c.args.points.now) ∙ c.if-not-marks_hold.false) (c.if-not-five.false) (sym (c.positions_hold.ensures c.args.marks.now) ∙ c.if-not-positions_hold.false) (sym (c.numbers_hold.ensures floats c.args.positions.now c.args.marks.now c.args.curves.now) ∙ c.if-not-numbers_hold.false) (sym c.curves_hold.ensures ∙ c.if-not-curves_hold.false) (sym c.limits_hold.ensures ∙ c.if-not-limits_hold.false)

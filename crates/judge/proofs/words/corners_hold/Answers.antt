@@ -29,10 +29,10 @@ pub column_below-requires : goal.column_below-requires
 column_below-requires c = let l = row_end _ _ _ _ c.requires c.loop-i-test.true in record { column = row_column _ _ _ (omega arith); width_bound = omega arith }
 
 pub returns-then-not-column_below : goal.returns-then-not-column_below
-returns-then-not-column_below c = sym (every_off _ _ _ _ c.loop-i-test.true (sym (row_corners _ _ _ _ _ c.requires c.loop-i-test.true) ∙ sym c.column_below.ensures ∙ not-true _ c.if-not-column_below.true-raw))
+returns-then-not-column_below c = sym (every_off _ _ _ _ c.loop-i-test.true (sym (row_corners _ _ _ _ _ c.requires c.loop-i-test.true) ∙ sym c.column_below.ensures ∙ c.if-not-column_below.true))
 
 pub loop-i-preserved : goal.loop-i-preserved
-loop-i-preserved c = (omega arith, every_on _ _ _ c.loop-i.invariant.1 (sym (row_corners _ _ _ _ _ c.requires c.loop-i-test.true) ∙ sym c.column_below.ensures ∙ not-false _ c.if-not-column_below.false-raw))
+loop-i-preserved c = (omega arith, every_on _ _ _ c.loop-i.invariant.1 (sym (row_corners _ _ _ _ _ c.requires c.loop-i-test.true) ∙ sym c.column_below.ensures ∙ c.if-not-column_below.false))
 
 pub returns : goal.returns
 returns c = every_done _ _ _ _ _ c.loop-i.invariant.0 c.loop-i-test.false (sym c.loop-i.invariant.1)

@@ -13,13 +13,13 @@ pub part_holds-requires : goal.part_holds-requires
 part_holds-requires c = let l = walking_within _ _ _ _ _ _ _ c.requires c.loop-i.invariant c.loop-i-test.true c.word-count.ensures in omega arith
 
 pub returns-then-not-part_holds : goal.returns-then-not-part_holds
-returns-then-not-part_holds c = walking_off _ _ _ _ _ _ _ c.requires c.loop-i.invariant c.loop-i-test.true c.word-count.ensures _ c.part_holds.ensures (not-true _ c.if-not-part_holds.true-raw)
+returns-then-not-part_holds c = walking_off _ _ _ _ _ _ _ c.requires c.loop-i.invariant c.loop-i-test.true c.word-count.ensures _ c.part_holds.ensures (c.if-not-part_holds.true)
 
 pub overflow_add-start : goal.overflow_add-start
 overflow_add-start c = omega (arith, walking_within _ _ _ _ _ _ _ c.requires c.loop-i.invariant c.loop-i-test.true c.word-count.ensures)
 
 pub loop-i-preserved : goal.loop-i-preserved
-loop-i-preserved c = walking_on _ _ _ _ _ _ _ c.requires c.loop-i.invariant c.loop-i-test.true c.word-count.ensures _ c.part_holds.ensures (not-false _ c.if-not-part_holds.false-raw)
+loop-i-preserved c = walking_on _ _ _ _ _ _ _ c.requires c.loop-i.invariant c.loop-i-test.true c.word-count.ensures _ c.part_holds.ensures (c.if-not-part_holds.false)
 
 pub returns : goal.returns
 returns c = walking_done _ _ _ _ _ _ c.loop-i.invariant c.loop-i-test.false
