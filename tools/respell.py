@@ -24,7 +24,7 @@ GOAL = re.compile(r"\b(?:tie|goal)\.")
 CHOSEN = {"curveVertices": "curve_vertices_of", "curve-vertices": "curve_vertices_lem", "aboveZero": "is_above_zero"}
 # As a record's field the first has the name of the field of `Sizes` that it stands beside.
 FIELDS = {"curveVertices": "curve_vertices"}
-FIELD = re.compile(r"\.«?\0|(?:^\s+|[{;]\s*)(?:pub\s+)?\0\s+[=:](?:\s|$)")
+FIELD = re.compile(r"(?<![A-Z])(?<!Mesh)\.«?\0|(?:^\s+|[{;]\s*)(?:pub\s+)?\0\s+[=:](?:\s|$)")
 KEPT = {"use", "where", "let", "record", "data", "open", "unfolding", "in", "elim", "as"}
 
 

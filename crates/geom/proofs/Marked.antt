@@ -122,7 +122,7 @@ bits = Ieee.to_bits binary32
 
 -- refined with every list lent to the limit, without smooth_time
 pub refined : Kind → ℕ → Mesh → Run
-unfolding Points4.sum Points4.scaled Points4.quotient Points4.midpoint Points4.origin Points4.added Points4.mean Points4.columns Book.find Book.seek Book.midpoint Book.each Book.place Book.mids Elements.pick Elements.pairs_of Elements.shut Elements.flat Elements.pieces Elements.assemble Rules.line Rules.divide Rules.steps Rules.between Rules.curve Rules.pass_by Simplices.triangle Simplices.simplex_pass Cubes.square Cubes.cube Cubes.cube_pass Vertices.flagged Vertices.strand_in Vertices.midpoint_in Vertices.pair_in Mesh.curve_vertices Mesh.sizes_of Smoothing.with_midpoints_in Smoothing.column_rule Smoothing.nothing Smoothing.ignored Smoothing.update Smoothing.to_corners Smoothing.gather Smoothing.gathered_in Smoothing.replaced Smoothing.moved_in Smoothing.settled_in Smoothing.settled_from_in Smoothing.smoothed_in Refinement.pass_over Refinement.fits Refinement.run_from Refinement.run
+unfolding Points4.sum Points4.scaled Points4.quotient Points4.midpoint Points4.origin Points4.added Points4.mean Points4.columns Book.find Book.seek Book.midpoint Book.each Book.place Book.mids Elements.pick Elements.pairs_of Elements.shut Elements.flat Elements.pieces Elements.assemble Rules.line Rules.divide Rules.steps Rules.between Rules.curve Rules.pass_by Simplices.triangle Simplices.simplex_pass Cubes.square Cubes.cube Cubes.cube_pass Vertices.flagged Vertices.strand_in Vertices.midpoint_in Vertices.pair_in Mesh.curve_vertices_of Mesh.sizes_of Smoothing.with_midpoints_in Smoothing.column_rule Smoothing.nothing Smoothing.ignored Smoothing.update Smoothing.to_corners Smoothing.gather Smoothing.gathered_in Smoothing.replaced Smoothing.moved_in Smoothing.settled_in Smoothing.settled_from_in Smoothing.smoothed_in Refinement.pass_over Refinement.fits Refinement.run_from Refinement.run
 refined kind depth m = Refinement.run kind false (record { cells = LIMITS; book = LIMIT }) depth m
 
 abbrev after : Kind → ℕ → Mesh → Mesh
