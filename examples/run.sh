@@ -1,10 +1,10 @@
 #!/usr/bin/env bash
-# Compiles the C examples against include/aljumeste.h and target/staticlib/libaljumeste.a, runs them, and holds what they print against the
+# Compiles the C examples against include/aljumeste.h and crates/aljumeste/out/libaljumeste.a, runs them, and holds what they print against the
 # text beside each. Also: the header declares the archive's functions, all of them and no others.
 set -euo pipefail
 cd "$(dirname "$0")/.."
 
-archive=target/staticlib/libaljumeste.a
+archive=crates/aljumeste/out/libaljumeste.a
 folder=$(mktemp -d)
 trap 'rm -rf "$folder"' EXIT
 

@@ -1,6 +1,6 @@
 /* Aljumeste: refined surfaces of cubes and simplices, their triangulation and their normals, for C.
  *
- * Link target/staticlib/libaljumeste.a, which `rt staticlib aljumeste` writes; it needs no runtime. Every function answers every input:
+ * Link crates/aljumeste/out/libaljumeste.a, which `rt lib` in crates/aljumeste writes; it needs no runtime. Every function answers every input:
  * any words in lists of any lengths, any sizes. What a caller owes is C's own part:
  * - A list is a pointer and its length in words (for the file, in bytes). The pointer is good for that many, aligned, and not NULL
  *   even where the length is 0.

@@ -17,28 +17,28 @@ import subprocess
 import sys
 import tempfile
 
-SPECS = "Rattle·geom·specs.specs"
+SPECS = "Rattle.geom.specs"
 REFERENCE = "oracle/reference"
-# what geom stands on, as the last check left it: with it `rt dev` proves geom alone
-BELOW = ("target/rlib/numbers.rlib", "target/stamp/numbers")
-FLOATS = "toBits ofBits ofFields size units odd round add sub sum mul div ofInt lt le eq neg".split()
-HEADER = """use mathlib.Core.Path.{_≡_, refl}
+# geom and what it stands on
+CRATES = "numbers:\ngeom: numbers\n"
+FLOATS = "to_bits of_bits of_fields size units odd round add sub sum mul div of_int lt le eq neg".split()
+HEADER = """use mathlib.Core.Path.{◌≡◌, refl}
 use mathlib.Core.Bool.{true, false}
-use mathlib.Core.List.{List, [], _∷_, flatMap, map}
+use mathlib.Core.List.{List, [], ◌∷◌, flat_map, map}
 use Prim.Native.Nat.{ℕ}
 use lib.Ieee as Ieee
-use lib.IntN.{pos, negℤ}
+use lib.IntN.{pos, neg_ℤ}
 use lib.ListN.{drop, length}
 use %s.declared.vertex.Vertex.{Vertex}
 """ % SPECS
 HELPERS = """
 abbrev got : File.Read File.Figure → Mesh.Mesh
-got (File.read f bytes) = f .mesh
+got (File.read f bytes) = f.mesh
 got (File.stop n) = record { vertices = []; points = []; lists = record { lines = []; areas = []; volumes = []; curves = [] } }
 
 -- the mesh of an input, whose first two bytes are the depth and smooth_time
-abbrev meshIn : List ℕ → Mesh.Mesh
-meshIn input = got (File.figure (λ (k : Book.Kind). Sheet.SHEET-CELLS) (drop 2 input))
+abbrev mesh_in : List ℕ → Mesh.Mesh
+mesh_in input = got (File.figure (λ (k : Book.Kind). Sheet.SHEET_CELLS) (drop 2 input))
 """
 
 
@@ -54,13 +54,13 @@ def numbers(values):
 
 def definitions():
     """The lines that name each module of definitions, and every definition in them that has to unfold."""
-    uses, names = [], ["Ieee." + name for name in FLOATS] + ["flatMap"]
-    for crate, home in (("geom", SPECS), ("numbers", "Rattle·numbers.specs")):
+    uses, names = [], ["Ieee." + name for name in FLOATS] + ["flat_map"]
+    for crate, home in (("geom", SPECS), ("numbers", "Rattle.numbers.specs")):
         for path in sorted(glob.glob("crates/%s/specs/*.antt" % crate)):
             module = os.path.basename(path)[: -len(".antt")]
             if module in ("Lib", "Binary32"):
                 continue
-            alias = module if crate == "geom" else "Numbers-" + module
+            alias = module if crate == "geom" else "Numbers_" + module
             uses.append("use %s.%s as %s" % (home, module, alias))
             names += [alias + "." + n for n in re.findall(r"^unfoldable pub (\S+) :", open(path).read(), re.M)]
     return uses, names
@@ -74,8 +74,8 @@ def normal_cells(answer, width):
 
 def shaded(width, mesh, answer):
     """The cells of a mesh's normals."""
-    cells = "flatMap Numbers-Normal.cells%d (Normals.normals%d (%s))" % (width, width, mesh)
-    return "map (Ieee.toBits Ieee.binary32) (%s)" % cells, numbers(normal_cells(bytes.fromhex(answer).decode(), width))
+    cells = "flat_map Numbers_Normal.cells%d (Normals.normals%d (%s))" % (width, width, mesh)
+    return "map (Ieee.to_bits Ieee.binary32) (%s)" % cells, numbers(normal_cells(bytes.fromhex(answer).decode(), width))
 
 
 def turned(given, listing, *normals):
@@ -83,7 +83,7 @@ def turned(given, listing, *normals):
     lines = bytes.fromhex(listing).decode().split("\n")
     if {line[0] for line in lines if line.endswith(("e", "o"))} != set("lasc"):
         return None
-    mesh = "Turning.flippedMesh (meshIn (%s))" % numbers(bytes.fromhex(given))
+    mesh = "Turning.flipped_mesh (mesh_in (%s))" % numbers(bytes.fromhex(given))
     told = [shaded(width, mesh, answer) for width, answer in zip((3, 4), normals)]
     if any(set(cells.split(" ∷ ")) == {"0", "[]"} for _, cells in told):
         return None
@@ -95,10 +95,10 @@ def replaced_faces(given, answer):
     rows = [[int(word) for word in line.split()[1:]] for line in bytes.fromhex(answer).decode().split("\n") if line.startswith("f ")]
     entries = {tuple(triple): n for *triple, n in rows}
     triples = list(itertools.product(range(1 + max(map(max, entries))), repeat=3))
-    mesh = "meshIn (%s)" % numbers(bytes.fromhex(given))
-    read = "Cutting.read (Cutting.replaced (length (%s .vertices)) (Ledger.ledger Book.cubes (%s .lists .volumes)))" % (mesh, mesh)
+    mesh = "mesh_in (%s)" % numbers(bytes.fromhex(given))
+    read = "Cutting.read (Cutting.replaced (length (%s).vertices) (Ledger.ledger Book.cubes (%s).lists.volumes))" % (mesh, mesh)
     values = [entries.get(triple, 0) for triple in triples]
-    signed = ["pos %d" % n if n >= 0 else "negℤ (pos %d)" % -n for n in values]
+    signed = ["pos %d" % n if n >= 0 else "neg_ℤ (pos %d)" % -n for n in values]
     return "map (%s) (%s)" % (read, numbers("(%s)" % numbers(triple) for triple in triples)), numbers(signed)
 
 
@@ -109,8 +109,8 @@ def strands(given, answer):
     if len(rows) <= int.from_bytes(count, "big"):
         return None
     kind, time = ("cubes", "simplices")[kind], ("false", "true")[time]
-    run = "Refinement.run Book.%s %s Sheet.SHEET-LENT %d (meshIn (%s))" % (kind, time, depth, numbers(bytes.fromhex(given)))
-    found = "flatMap (λ (v : Vertex). v .tag ∷ v .k ∷ []) (%s .left .mesh .vertices)" % run
+    run = "Refinement.run Book.%s %s Sheet.SHEET_LENT %d (mesh_in (%s))" % (kind, time, depth, numbers(bytes.fromhex(given)))
+    found = "flat_map (λ (v : Vertex). v.tag ∷ v.k ∷ []) (%s).left.mesh.vertices" % run
     return found, numbers(itertools.chain.from_iterable(rows))
 
 
@@ -123,7 +123,7 @@ def equations(count):
         told = map(strands, many, reference("answers", "strands", lines=many))
         yield from itertools.islice(filter(None, told), count)
         inputs = reference("random", kind, seed + 2, count, 5, 3, 0, 0)
-        meshes = ["meshIn (%s)" % numbers(bytes.fromhex(given)) for given in inputs]
+        meshes = ["mesh_in (%s)" % numbers(bytes.fromhex(given)) for given in inputs]
         if kind == "cubes":
             meshes = ["Triangulation.triangulated (%s)" % mesh for mesh in meshes]
             for mesh, answer in zip(meshes, reference("answers", "triangulate", lines=inputs)):
@@ -151,14 +151,13 @@ def main():
         text += "\ncase%d : %s ≡ %s\nunfolding %s\ncase%d = refl\n" % (cases, found, answer, " ".join(names), cases)
         cases += 1
     with tempfile.TemporaryDirectory() as copy:
-        for part in ("crates.txt", "crates", *BELOW):
-            if os.path.exists(part):
-                os.makedirs(os.path.dirname(os.path.join(copy, part)), exist_ok=True)
-                (shutil.copytree if os.path.isdir(part) else shutil.copy)(part, os.path.join(copy, part))
-        proofs = os.path.join(copy, "crates/geom/proofs")
-        open(os.path.join(proofs, "Held.antt"), "w").write(text)
-        open(os.path.join(proofs, "Lib.antt"), "a").write("pub mod Held\n")
-        run = subprocess.run(["rt", "dev", "geom"], cwd=copy, capture_output=True, text=True)
+        open(os.path.join(copy, "crates.txt"), "w").write(CRATES)
+        for crate in ("numbers", "geom"):
+            shutil.copytree(os.path.join("crates", crate), os.path.join(copy, "crates", crate), ignore=shutil.ignore_patterns("out"))
+        geom = os.path.join(copy, "crates/geom")
+        open(os.path.join(geom, "proofs/Held.antt"), "w").write(text)
+        open(os.path.join(geom, "proofs/Lib.antt"), "a").write("pub mod Held\n")
+        run = subprocess.run(["rt", "check"], cwd=geom, capture_output=True, text=True)
     wrong = [line for line in (run.stdout + run.stderr).split("\n") if "error" in line]
     print("definitions: %d equations with the Rust, %d refused" % (cases, len(wrong)))
     print("\n".join(line[:300] for line in wrong), end="")

@@ -1,7 +1,7 @@
-// Links the repository's static library, and makes it first with `rt staticlib aljumeste` where it is missing or older than the crates.
+// Links the repository's static library, and makes it first with `rt lib`, run in crates/aljumeste, where it is missing or older than the crates.
 use std::{
     env, fs, io,
-    path::Path,
+    path::{Path, PathBuf},
     process::{self, Command},
     time::SystemTime,
 };
@@ -11,27 +11,42 @@ fn main() {
     let root = Path::new(&here)
         .parent()
         .expect("the package stands in the repository");
-    let folder = root.join("target/staticlib");
+    let exports = root.join("crates/aljumeste");
+    let folder = exports.join("out");
     let archive = folder.join("libaljumeste.a");
-    let sources = [root.join("crates"), root.join("crates.txt")];
+    let sources = sources(root).expect("the repository has a folder crates");
     for path in sources.iter().chain([&archive]) {
         println!("cargo:rerun-if-changed={}", path.display());
     }
     if !is_current(&archive, &sources) {
-        make(root);
+        make(&exports);
     }
     println!("cargo:rustc-link-search=native={}", folder.display());
     println!("cargo:rustc-link-lib=static=aljumeste");
 }
 
+/// What the archive is made of: crates.txt, and all of each crate but out/, in which `rt` keeps what it made.
+fn sources(root: &Path) -> io::Result<Vec<PathBuf>> {
+    let mut found = vec![root.join("crates.txt")];
+    for folder in fs::read_dir(root.join("crates"))? {
+        for part in fs::read_dir(folder?.path())? {
+            let part = part?;
+            if part.file_name() != "out" {
+                found.push(part.path());
+            }
+        }
+    }
+    Ok(found)
+}
+
 /// The archive is there, and no source is younger.
-fn is_current(archive: &Path, sources: &[impl AsRef<Path>]) -> bool {
+fn is_current(archive: &Path, sources: &[PathBuf]) -> bool {
     let Ok(made) = fs::metadata(archive).and_then(|data| data.modified()) else {
         return false;
     };
     sources
         .iter()
-        .all(|source| youngest(source.as_ref()).is_ok_and(|change| change <= made))
+        .all(|source| youngest(source).is_ok_and(|change| change <= made))
 }
 
 /// When a file, or anything in a folder, was last changed.
@@ -46,14 +61,14 @@ fn youngest(path: &Path) -> io::Result<SystemTime> {
     Ok(latest)
 }
 
-fn make(root: &Path) {
+fn make(exports: &Path) {
     let ended = Command::new("rt")
-        .args(["staticlib", "aljumeste"])
-        .current_dir(root)
+        .arg("lib")
+        .current_dir(exports)
         .status();
     match ended {
         Ok(status) if status.success() => (),
-        Ok(status) => stop(&format!("`rt staticlib aljumeste` ended with {status}")),
+        Ok(status) => stop(&format!("`rt lib` in crates/aljumeste ended with {status}")),
         Err(error) => stop(&format!(
             "`rt`, the Rattle kit's tool, cannot be started ({error}): it has to be on the PATH"
         )),
@@ -61,6 +76,6 @@ fn make(root: &Path) {
 }
 
 fn stop(why: &str) {
-    eprintln!("target/staticlib/libaljumeste.a is not there or not current. {why}.");
+    eprintln!("crates/aljumeste/out/libaljumeste.a is not there or not current. {why}.");
     process::exit(1);
 }

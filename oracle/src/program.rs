@@ -8,7 +8,7 @@ use std::{
 };
 
 /// Its place in the repository.
-const PROGRAM: &str = concat!(env!("CARGO_MANIFEST_DIR"), "/../target/bin/sheet");
+const PROGRAM: &str = concat!(env!("CARGO_MANIFEST_DIR"), "/../crates/sheet/out/sheet");
 
 /// What writes to the program's standard input. It sees when the program has ended.
 pub type Feed<'a> = &'a (dyn Fn(&mut ChildStdin, &AtomicBool) -> io::Result<()> + Sync);
@@ -17,7 +17,7 @@ pub type Feed<'a> = &'a (dyn Fn(&mut ChildStdin, &AtomicBool) -> io::Result<()> 
 pub fn fed(feed: Feed) -> Result<String, String> {
     assert!(
         Path::new(PROGRAM).is_file(),
-        "target/bin/sheet is missing: make it with `rt check sheet`, run in the repository's root folder."
+        "crates/sheet/out/sheet is missing: make it with `rt run`, run in the folder crates/sheet."
     );
     let mut child = Command::new(PROGRAM)
         .stdin(Stdio::piped())

@@ -10,7 +10,6 @@ use Rattle.book.specs.Answers.{Ready}
 use Rattle.division.specs.declared.Written.{Written}
 use Rattle.division.specs.declared.Written.TheVariants.{Rows, Full}
 use Rattle.division.specs.declared.elements.Filled.{Filled}
-use Rattle.division.specs.declared.elements.Filled.TheVariants as Filled
 
 -- a lent slice after `out` was written from the place `at` on: the cells before and past it stay
 unfoldable pub written : {A : Type 0} → List A → ℕ → List A → List A

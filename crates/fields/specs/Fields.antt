@@ -5,7 +5,6 @@ use Rattle.std.specs.Prelude.{◌≡◌, List, ℕ, zero, suc, ◌+◌, ◌-◌,
 use Rattle.std.specs.Float.{binary32}
 use Rattle.std.specs.Float.Ieee.{of_bits}
 use Rattle.geom.specs.declared.answer.Ended.{Ended}
-use Rattle.geom.specs.declared.answer.Ended.TheVariants as Ended
 use Rattle.geom.specs.declared.parity.Parity.{Parity}
 use Rattle.geom.specs.declared.vertex.Vertex.{Vertex}
 use Rattle.geom.specs.Elements.{Element, Curve}
@@ -15,7 +14,6 @@ use Rattle.geom.specs.Refinement.{LIMIT}
 use Rattle.geom.specs.Refusals.{good_flags}
 use Rattle.geom.specs.File.{read, stop, Reader, ◌>>=◌, judged, byte, counted, curve_count, curve, curves}
 use Rattle.fields.specs.declared.field.Field.{Field}
-use Rattle.fields.specs.declared.field.Field.TheVariants as Field
 
 -- ---- by places
 

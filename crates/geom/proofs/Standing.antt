@@ -9,7 +9,6 @@ use lib.ListN.{length, get_or, take, drop}
 use lib.Seq.{take_at, drop_at}
 use Rattle.geom.specs.declared.parity.Parity.{Parity}
 use Rattle.geom.specs.declared.parity.Parity.TheVariants.{Even, Odd}
-use Rattle.geom.specs.declared.vertex.Vertex.{Vertex}
 use Rattle.geom.specs.Form.{Form}
 use Rattle.geom.specs.Book.{Kind}
 use Rattle.geom.specs.Elements.{Element, Curve}

@@ -10,9 +10,9 @@ use Rattle.geom.specs.declared.vertex.Vertex.{Vertex}
 use Rattle.geom.specs.Answers.{accepted, first_due}
 use Rattle.geom.specs.Book.{Kind}
 use Rattle.geom.specs.Elements.{Element, Curve}
-use Rattle.geom.specs.Mesh.{Mesh, curve_vertices_of, sizes_of}
+use Rattle.geom.specs.Mesh.{Mesh, sizes_of}
 use Rattle.geom.specs.Memory.{Bench, ElementRow, CurveRow, StepRow, Rows, area_corners, volume_corners, cells, rows_of, mesh_of, bench_of}
-use Rattle.geom.specs.Refinement.{LIMITS, within}
+use Rattle.geom.specs.Refinement.{LIMITS}
 use Rattle.geom.specs.Refusals.{every, good_position, good_number, good_curve, positions_hold, numbers_hold, handed_in, StandsFor}
 use Rattle.geom.specs.File.{bench_over}
 use Rattle.geom.specs.Between.{All}

@@ -14,7 +14,7 @@ use Rattle.geom.specs.declared.answer.Sizes.{Sizes}
 use Rattle.geom.specs.Book.{Kind}
 use Rattle.geom.specs.Elements.{Element, Curve}
 use Rattle.geom.specs.Mesh.{Mesh, curve_vertices_of, sizes_of}
-use Rattle.geom.specs.Refinement.{LIMIT, LIMITS, within}
+use Rattle.geom.specs.Refinement.{LIMIT, LIMITS}
 use Rattle.geom.specs.Refusals.{good_flags, good_coordinate, good_position, good_position_in, good_number}
 use Rattle.geom.specs.Memory.{area_corners, volume_corners}
 use Rattle.geom.specs.File as File

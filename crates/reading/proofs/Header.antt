@@ -18,10 +18,8 @@ use Rattle.fields.specs.Fields.{Reads, Gives}
 use Rattle.reading.specs.Parts.{taken_of}
 use Rattle.reading.specs.declared.part.Taken.{Taken}
 use Rattle.fields.specs.declared.field.Field.{Field}
-use Rattle.fields.specs.declared.field.Field.TheVariants as Field
 use Rattle.fields.proofs.Reading.{stopped}
 use Rattle.reading.specs.declared.judging.Found.{Found}
-use Rattle.reading.specs.declared.judging.Found.TheVariants as Found
 use Rattle.reading.specs.Picked.{kind_in, header_of}
 use Rattle.reading.specs.Places.{Finds}
 use Rattle.reading.proofs.Lists.{lying, Lies}

@@ -19,7 +19,6 @@ use Rattle.fields.specs.Listed.{listed, Listed}
 use Rattle.reading.specs.Parts.{strung}
 use Rattle.fields.proofs.Listing.{first_stops, list_stops}
 use Rattle.reading.specs.declared.judging.Found.{Found}
-use Rattle.reading.specs.declared.judging.Found.TheVariants as Found
 use Rattle.reading.specs.Places.{end_place, mesh_at, Fits, Lain}
 
 -- the lists, and that nothing is left over

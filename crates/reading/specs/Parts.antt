@@ -10,7 +10,6 @@ use Rattle.geom.specs.File.{Reader, stop, ◌>>=◌, counted, curves}
 use Rattle.fields.specs.declared.field.Field.{Field}
 use Rattle.fields.specs.declared.field.Field.TheVariants.{Value, Refused}
 use Rattle.reading.specs.declared.part.Part.{Part}
-use Rattle.reading.specs.declared.part.Part.TheVariants as Part
 use Rattle.reading.specs.declared.part.Taken.{Taken}
 use Rattle.fields.specs.Fields.{word_at, vertex_at, wide, element_at, Gives, Counted, WoundAll}
 use Rattle.fields.specs.Listed.{Lists}

@@ -3,9 +3,7 @@
 -- Assumes nothing.
 use Rattle.std.specs.Prelude.{ℕ, zero, suc}
 use Rattle.geom.specs.declared.answer.Ended.{Ended}
-use Rattle.geom.specs.declared.answer.Ended.TheVariants as Ended
 use Rattle.geom.specs.declared.answer.Opened.{Opened}
-use Rattle.geom.specs.declared.answer.Opened.TheVariants as Opened
 use Rattle.geom.specs.declared.answer.Sizes.{Sizes}
 use Rattle.geom.specs.declared.kind.Kind.{Kind}
 use Rattle.geom.specs.declared.kind.Kind.TheVariants.{Cubes, Simplices}
@@ -13,7 +11,6 @@ use Rattle.fields.specs.declared.field.Field.{Field}
 use Rattle.fields.specs.declared.field.Field.TheVariants.{Value, Refused}
 use Rattle.reading.specs.declared.walk.Walked.{Walked}
 use Rattle.reading.specs.declared.judging.Found.{Found}
-use Rattle.reading.specs.declared.judging.Found.TheVariants as Found
 
 -- what a kind byte opens, or the number by which it wasn't read
 abbrev pub kind_in : Field → Opened

@@ -10,7 +10,6 @@ use Rattle.geom.specs.Memory.{area_corners, volume_corners}
 use Rattle.geom.specs.File.{read, stop, figure}
 use Rattle.fields.specs.Fields.{word_at, vertices_at, numbers_at, wide, elements_at, curve_place, curves_at}
 use Rattle.reading.specs.declared.judging.Found.{Found}
-use Rattle.reading.specs.declared.judging.Found.TheVariants as Found
 
 -- ---- by places
 

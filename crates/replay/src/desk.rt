@@ -88,7 +88,8 @@ pub fn on_desk<W: Write>(out: &mut W, depth: u8, time: u8, file: &[u8]) -> io::R
     spaced(out, passes as usize)?;
     if passes % 2 == 0 {
         mesh(
-            out, kind, sizes, &positions, &marks, &points, &lines, &areas, &volumes, &curves, &steps,
+            out, kind, sizes, &positions, &marks, &points, &lines, &areas, &volumes, &curves,
+            &steps,
         )
     } else {
         mesh(

@@ -12,9 +12,8 @@ mod print;
 ghost use Rattle.std.specs.Prelude.{◌≡◌, ◌<◌, length};
 
 use desk::on_desk;
-use std::fs;
-use std::io;
 use std::io::Write;
+use std::{fs, io};
 
 // As many bytes as the stored files may have, and one more.
 fn buffer() -> [u8; 131073]

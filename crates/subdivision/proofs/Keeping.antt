@@ -6,7 +6,6 @@ use lib.Dec.{eqb}
 use Rattle.geom.specs.declared.answer.Sizes.{Sizes}
 use Rattle.geom.specs.Answers.{Verdict, accepted, Told}
 use Rattle.geom.specs.Book.{Kind, simplices}
-use Rattle.geom.specs.Ledger.{ledger}
 use Rattle.geom.specs.Form.{Form}
 use Rattle.geom.specs.Mesh.{MeshIn}
 use Rattle.geom.specs.Refinement.{RunIn, told_by}

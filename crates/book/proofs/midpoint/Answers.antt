@@ -1,6 +1,5 @@
 -- `book::midpoint` meets its contract. Assumes nothing.
 use native.Mathlib.Omega.{arith}
-use borrow.Author.Rules.{rules}
 use Rattle.geom.specs.Book.{pair}
 use Rattle.book.proofs.Placing.{hit, hit_found, missed_none, missed_free, placed_found, placed_new, crowded, answers, refuses}
 use Rattle.book.proofs.midpoint.Goals as goal

@@ -1,5 +1,4 @@
 -- `book::midpoint_of` meets its contract. Assumes nothing.
-use borrow.Author.Rules.{rules}
 use Rattle.geom.specs.Kinds.{kind_of}
 use Rattle.book.proofs.Placing.{answers, answered_still, answered_by}
 use Rattle.book.proofs.midpoint_of.Goals as goal

@@ -1,6 +1,5 @@
 -- `book::still` meets its contract. Assumes nothing.
 use mathlib.Core.Path.{refl}
-use borrow.Author.Rules.{rules}
 use Rattle.book.proofs.still.Goals as goal
 
 pub returns-in-Cubes : goal.returns-in-Cubes

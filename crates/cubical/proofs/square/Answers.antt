@@ -10,7 +10,6 @@ use Rattle.division.specs.Shapes.{shape_of}
 use Rattle.division.proofs.Listing.{one_row}
 use Rattle.book.proofs.Placing.{outgrows}
 use Rattle.cubical.proofs.Squared.{square_shut, square_crowded, square_flat, square_divided}
-use borrow.Author.Rules.{rules}
 use native.Mathlib.Omega.{arith}
 use Rattle.cubical.proofs.square.Goals as goal
 

@@ -2,7 +2,6 @@
 use mathlib.Core.Path.{refl}
 use Rattle.geom.specs.Memory.{first_of, element_row}
 use Rattle.division.specs.Shapes.{below, edge_at, edges_of, order_of, row_of, table_of, axis_from, axes_of, shape_of}
-use borrow.Author.Rules.{rules}
 use native.Mathlib.Omega.{arith}
 use Rattle.cubical.proofs.squares.Goals as goal
 

@@ -1,11 +1,9 @@
 -- `cubical::squares_by` meets its contract: a square a turn (`Listing`). Assumes nothing.
 use mathlib.Core.Path.{refl, ◌∙◌}
-use Prim.Native.Nat.{◌-◌}
 use Rattle.geom.specs.Cubes.{square}
 use Rattle.book.specs.Cells.{pairs_of}
-use Rattle.division.proofs.Listing.{Listing, listing_start, listing_on, listing_full, listing_done}
+use Rattle.division.proofs.Listing.{listing_start, listing_on, listing_full, listing_done}
 use Rattle.cubical.proofs.Squared.{square_grows}
-use borrow.Author.Rules.{rules}
 use native.Mathlib.Omega.{arith}
 use Rattle.cubical.proofs.squares_by.Goals as goal
 

@@ -1,12 +1,8 @@
 -- `cubical::squares_by` meets its contract: a square a turn (`Listing`). Assumes nothing.
-use mathlib.Core.Path.{refl, ◌∙◌}
 use Prim.Native.Nat.{◌-◌}
 use Rattle.geom.specs.Cubes.{square}
 use Rattle.book.specs.Cells.{pairs_of}
-use Rattle.division.proofs.Listing.{Listing, listing_start, listing_on, listing_full, listing_done}
-use Rattle.cubical.proofs.Squared.{square_grows}
-use borrow.Author.Rules.{rules}
-use native.Mathlib.Omega.{arith}
+use Rattle.division.proofs.Listing.{Listing}
 use Rattle.cubical.proofs.squares_by.Given as goal
 
 abbrev pub invariant-loop-i : goal.invariant-loop-i

@@ -1,6 +1,5 @@
 -- `desk::area_words` meets its contract, kind by kind. Assumes nothing.
 use mathlib.Core.Path.{refl}
-use borrow.Author.Rules.{rules}
 use Rattle.desk.proofs.area_words.Goals as goal
 
 pub returns-in-Cubes : goal.returns-in-Cubes

@@ -1,6 +1,5 @@
 -- `desk::look` meets its contract: the file's second byte, where there is one. Assumes nothing.
 use Rattle.desk.proofs.Cells.{said_none, said_cubes, said_simplices}
-use borrow.Author.Rules.{rules}
 use Rattle.desk.proofs.look.Goals as goal
 
 pub returns-then-file-lt2 : goal.returns-then-file-lt2

@@ -1,10 +1,7 @@
 -- `figure::load` meets its contract: 9, the judgement, and the mesh on the first bench. Assumes nothing.
 use mathlib.Core.Path.{◌∙◌, sym}
-use borrow.Author.Tests.{not-true, not-false}
-use Rattle.geom.specs.Memory.{Bench}
 use Rattle.judge.specs.Judged.{bench}
 use Rattle.figure.proofs.Benches.{load_nine, load_refused, load_ready, load_read}
-use borrow.Author.Rules.{rules}
 use Rattle.figure.proofs.load.Goals as goal
 
 pub returns-then-not-benches_equal : goal.returns-then-not-benches_equal

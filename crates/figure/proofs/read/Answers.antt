@@ -1,7 +1,6 @@
 -- `figure::read` meets its contract. Assumes nothing.
 use mathlib.Core.Path.{refl}
 use Rattle.geom.specs.Answers.{opening_of, judgement_of}
-use borrow.Author.Rules.{rules}
 use Rattle.figure.proofs.read.Goals as goal
 
 pub returns-in-Cubes : goal.returns-in-Cubes

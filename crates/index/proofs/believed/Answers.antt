@@ -1,6 +1,5 @@
 -- `index::believed` meets its contract. Assumes nothing.
 use mathlib.Core.Path.{refl}
-use borrow.Author.Rules.{rules}
 use Rattle.index.proofs.Pairs.{bucketed}
 use Rattle.index.proofs.believed.Goals as goal
 

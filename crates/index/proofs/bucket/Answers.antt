@@ -5,7 +5,6 @@ use Prim.Native.Nat.{ℕ, ◌*◌, ◌/◌, ◌%◌, ◌^◌}
 use native.Mathlib.Nat.{mod-lt}
 use native.Mathlib.Omega.{arith}
 use lib.Count.{count_leading_zeros, leading_le}
-use borrow.Author.Rules.{rules}
 use Rattle.index.specs.Cells.{pair_mix, circled, bucket_of, pairs}
 use Rattle.index.proofs.Rows.{product_fits, bucket_below}
 use Rattle.index.proofs.bucket.Goals as goal

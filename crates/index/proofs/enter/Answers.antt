@@ -1,7 +1,6 @@
 -- `index::enter` meets its contract: what it stores is the new entry. Assumes nothing.
 use native.Mathlib.Omega.{arith}
 use lib.ListN.{length-set}
-use borrow.Author.Rules.{rules}
 use Rattle.index.proofs.Pairs.{open_fits, stored}
 use Rattle.index.proofs.enter.Goals as goal
 

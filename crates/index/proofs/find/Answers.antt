@@ -2,14 +2,10 @@
 -- left of the 64 levels that an entry of another key can have. Assumes nothing.
 use mathlib.Core.Path.{refl, sym, ◌∙◌, subst}
 use mathlib.Core.List.{[], ◌∷◌}
-use Prim.Native.Nat.{◌-◌}
 use native.Mathlib.Numerals.{add-one}
 use native.Mathlib.Omega.{arith}
-use borrow.Author.Tests.{not-true, not-false}
-use borrow.Author.Rules.{rules}
-use Rattle.index.specs.Cells.{pairs}
 use Rattle.index.specs.Answers.{Names, Believed}
-use Rattle.index.proofs.Ways.{Going, on, ends_bare, ends_under}
+use Rattle.index.proofs.Ways.{on, ends_bare, ends_under}
 use Rattle.index.proofs.Pairs.{hit, other, begin, shallow}
 use Rattle.index.proofs.find.Goals as goal
 

@@ -1,5 +1,4 @@
 -- `index::names` meets its contract. Assumes nothing.
-use borrow.Author.Rules.{rules}
 use Rattle.index.proofs.Pairs.{named}
 use Rattle.index.proofs.names.Goals as goal
 

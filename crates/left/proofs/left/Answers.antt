@@ -13,10 +13,10 @@ returns-then-side-words c =
     let s = c.args in
     let test = c.wrote_first.ensures in
     let met : c.if-wrote_first.side.now ≡ side s.passes s.first.now s.second.now =
-      elim c.if-wrote_first.branch [
-        then-wrote_first w ↦ picked s.passes s.first.now s.second.now test w.if-wrote_first.true (ap (λ x. x.now) w.side-is)
+    elim c.if-wrote_first.branch [
+      | then-wrote_first w ↦ picked s.passes s.first.now s.second.now test w.if-wrote_first.true (ap (λ x. x.now) w.side-is)
       | else-wrote_first w ↦ picked s.passes s.first.now s.second.now test w.if-wrote_first.false (ap (λ x. x.now) w.side-is)
-      ] in
+    ] in
     sym (take_all s.words c.if-wrote_first.side.now c.if-side-words.true) ∙ ap (take s.words) met
 
 pub slice_bounds-result-end : goal.slice_bounds-result-end
@@ -28,8 +28,8 @@ returns c =
     let s = c.args in
     let test = c.wrote_first.ensures in
     let met : c.if-wrote_first.side.now ≡ side s.passes s.first.now s.second.now =
-      elim c.if-wrote_first.branch [
-        then-wrote_first w ↦ picked s.passes s.first.now s.second.now test w.if-wrote_first.true (ap (λ x. x.now) w.side-is)
+    elim c.if-wrote_first.branch [
+      | then-wrote_first w ↦ picked s.passes s.first.now s.second.now test w.if-wrote_first.true (ap (λ x. x.now) w.side-is)
       | else-wrote_first w ↦ picked s.passes s.first.now s.second.now test w.if-wrote_first.false (ap (λ x. x.now) w.side-is)
-      ] in
+    ] in
     ap (take s.words) met

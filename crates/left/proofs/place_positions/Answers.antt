@@ -1,5 +1,4 @@
 -- `left::place_positions` meets its contract: the part's bench and its length (`placed`). Assumes nothing.
-use borrow.Author.Rules.{rules}
 use Rattle.left.proofs.Picked.{placed}
 use Rattle.left.proofs.place_positions.Goals as goal
 

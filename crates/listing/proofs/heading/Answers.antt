@@ -1,7 +1,6 @@
 -- `listing::heading` meets its contract: the texts of the first line one after the other. Assumes nothing.
 use Rattle.listing.proofs.Whole.{heading_parts}
 use Rattle.listing.proofs.Texts.{going_begin, going_room, going_on, going_long, going_done}
-use borrow.Author.Rules.{rules}
 use Rattle.listing.proofs.heading.Goals as goal
 
 pub say-at-requires : goal.say-at-requires

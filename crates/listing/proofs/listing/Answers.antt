@@ -8,7 +8,6 @@ use Rattle.listing.specs.Text.{together, element_text}
 use Rattle.listing.proofs.Whole.{listing_parts, any_marks, put_printed}
 use Rattle.listing.proofs.Texts.{going_begin, begin_room, going_room, going_on, going_as, going_long, going_done}
 use native.Mathlib.Omega.{arith}
-use borrow.Author.Rules.{rules}
 use Rattle.listing.proofs.listing.Goals as goal
 
 pub heading-at-requires : goal.heading-at-requires

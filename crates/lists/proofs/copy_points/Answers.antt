@@ -1,10 +1,7 @@
 -- `lists::copy_points` meets its contract: a copy, word by word. Assumes nothing.
 use mathlib.Core.Path.{refl, ◌∙◌}
-use Prim.Native.Nat.{ℕ, ◌-◌}
-use lib.ListN.{get_or}
-use Rattle.division.proofs.Rows.{written_over, Copying, copying_start, copying_length, copying_on, copying_done}
+use Rattle.division.proofs.Rows.{written_over, copying_start, copying_length, copying_on, copying_done}
 use Rattle.lists.specs.Lists.{points_of}
-use borrow.Author.Rules.{rules}
 use native.Mathlib.Omega.{arith}
 use Rattle.lists.proofs.copy_points.Goals as goal
 

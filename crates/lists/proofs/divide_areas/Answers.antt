@@ -3,7 +3,6 @@ use Rattle.geom.specs.Kinds.{kind_of}
 use Rattle.geom.specs.Memory.{area_corners, element_row}
 use Rattle.geom.specs.Between.{area_rule}
 use Rattle.division.proofs.Listing.{listed_none}
-use borrow.Author.Rules.{rules}
 use Rattle.lists.proofs.divide_areas.Goals as goal
 
 pub returns-then-count-eq0 : goal.returns-then-count-eq0

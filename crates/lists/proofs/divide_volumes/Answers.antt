@@ -5,7 +5,6 @@ use Rattle.geom.specs.Kinds.{kind_of}
 use Rattle.geom.specs.Memory.{volume_corners, element_row}
 use Rattle.geom.specs.Between.{volume_rule}
 use Rattle.division.proofs.Listing.{listed_none}
-use borrow.Author.Rules.{rules}
 use Rattle.lists.proofs.divide_volumes.Goals as goal
 
 pub returns-then-count-eq0 : goal.returns-then-count-eq0

@@ -5,7 +5,6 @@ use Rattle.geom.specs.Kinds.{kind_of}
 use Rattle.book.specs.Cells.{pairs_of}
 use Rattle.lists.specs.Lists.{slices}
 use Rattle.lists.proofs.Passing.{full_lines, full_areas, full_volumes, full_curves, whole, lengths_stand, curves_stand}
-use borrow.Author.Rules.{rules}
 use Rattle.lists.proofs.lists.Goals as goal
 
 pub returns-in_default : goal.returns-in_default

@@ -1,7 +1,6 @@
 -- `loading::found_in` meets its contract, case by case. Assumes nothing.
 use mathlib.Core.Path.{refl}
 use Rattle.geom.specs.Answers.{judgement_of}
-use borrow.Author.Rules.{rules}
 use Rattle.loading.proofs.found_in.Goals as goal
 
 pub returns-in-Cubes : goal.returns-in-Cubes

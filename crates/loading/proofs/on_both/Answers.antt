@@ -1,10 +1,9 @@
 -- `loading::on_both` meets its contract: what was read is the definition's figure, and its refinement the definition's text. Assumes nothing.
-use mathlib.Core.Path.{refl, ◌∙◌}
+use mathlib.Core.Path.{◌∙◌}
 use Rattle.printing.proofs.Lengths.{refusal_short}
 use Rattle.loading.proofs.Opening.{found_handed, found_text, found_refused}
 use Rattle.printing.proofs.Texts.{printed_as}
 use native.Mathlib.Omega.{arith}
-use borrow.Author.Rules.{rules}
 use Rattle.loading.proofs.on_both.Goals as goal
 
 pub refined-requires : goal.refined-requires

@@ -4,7 +4,6 @@ use lib.Seq.{length-take-le}
 use Rattle.geom.specs.Kinds.{kind_of}
 use Rattle.desk.proofs.Cells.{area_words_few, volume_words_few, areas_lent, volumes_lent}
 use native.Mathlib.Omega.{arith}
-use borrow.Author.Rules.{rules}
 use Rattle.loading.proofs.on_second.Goals as goal
 
 pub slice_bounds-other_areas-end : goal.slice_bounds-other_areas-end

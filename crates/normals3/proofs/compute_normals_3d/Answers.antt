@@ -1,11 +1,9 @@
 -- `normals3::compute_normals_3d` meets its contract, refused or accepted. Assumes nothing.
-use borrow.Author.Rules.{rules}
 use native.Mathlib.Omega.{arith}
-use mathlib.Core.List.{List, flat_map}
-use lib.Ieee.{Float}
+use mathlib.Core.List.{flat_map}
 use Rattle.numbers.specs.Normal.{cells3}
 use Rattle.geom.specs.Book.{simplices}
-use Rattle.geom.specs.Memory.{Bench, rows_of, mesh_of}
+use Rattle.geom.specs.Memory.{rows_of, mesh_of}
 use Rattle.geom.specs.Normals.{normals3, shading3}
 use Rattle.judge.specs.Judged.{bench}
 use Rattle.geom.proofs.Accepted.{accepted_by}

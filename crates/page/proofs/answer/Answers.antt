@@ -2,7 +2,6 @@
 use mathlib.Core.Path.{sym}
 use lib.Seq.{length-take-le}
 use Rattle.page.proofs.Pages.{answered}
-use borrow.Author.Rules.{rules}
 use Rattle.page.proofs.answer.Goals as goal
 
 pub slice_bounds-sheet-end : goal.slice_bounds-sheet-end

@@ -3,7 +3,6 @@ use Rattle.printing.proofs.Lengths.{refusal_short}
 use Rattle.printing.proofs.Texts.{printed_as}
 use Rattle.page.proofs.Pages.{printed_fits, too_long, too_short, bad_time, good_time, file_text}
 use native.Mathlib.Omega.{arith}
-use borrow.Author.Rules.{rules}
 use Rattle.page.proofs.sheet.Goals as goal
 
 pub refusal-requires : goal.refusal-requires

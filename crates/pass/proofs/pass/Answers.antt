@@ -4,7 +4,6 @@ use Rattle.judge.specs.Judged.{bench}
 use Rattle.pass.proofs.Next.{passed_full}
 use Rattle.pass.proofs.Ready.{points_stand, points_room, given, entries_grow, vertices_ready, vertices_gather}
 use Rattle.pass.proofs.Whole.{passed_whole, cells_same}
-use borrow.Author.Rules.{rules}
 use Rattle.pass.proofs.pass.Goals as goal
 
 pub copy_points-requires : goal.copy_points-requires

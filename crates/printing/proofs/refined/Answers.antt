@@ -5,7 +5,6 @@ use Rattle.printing.proofs.Lengths.{refusal_short}
 use Rattle.printing.proofs.Refining.{prints_refusal, prints_listing, few_passes, few_left, lists_left}
 use Rattle.printing.proofs.Texts.{printed_as}
 use native.Mathlib.Omega.{arith}
-use borrow.Author.Rules.{rules}
 use Rattle.printing.proofs.refined.Goals as goal
 
 pub show-requires : goal.show-requires

@@ -6,7 +6,6 @@ use Rattle.judge.proofs.Verdicts.{area_few, volume_few}
 use Rattle.printing.proofs.Picking.{few_words, wide_part, listed_handed, stated_handed}
 use Rattle.printing.proofs.Texts.{printed_as}
 use native.Mathlib.Omega.{arith}
-use borrow.Author.Rules.{rules}
 use Rattle.printing.proofs.show.Goals as goal
 
 pub overflow_add-area : goal.overflow_add-area

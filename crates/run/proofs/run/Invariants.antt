@@ -1,13 +1,10 @@
 -- `run::run` meets its contract: a pass a turn (`Going`). Assumes nothing.
-use mathlib.Core.Path.{◌∙◌}
 use Prim.Native.Nat.{◌-◌}
-use native.Mathlib.Omega.{arith}
-use borrow.Author.Rules.{rules}
 use Rattle.geom.specs.Kinds.{kind_of}
 use Rattle.judge.specs.Judged.{bench}
 use Rattle.pass.specs.Benches.{state_of, lent_of}
 use Rattle.run.specs.Runs.{run_of}
-use Rattle.run.proofs.Going.{Going, going_start, at_forth, at_back, full_forth, full_back, done, go_forth, go_back}
+use Rattle.run.proofs.Going.{Going}
 use Rattle.run.proofs.run.Given as goal
 
 abbrev pub invariant-loop-passes : goal.invariant-loop-passes

@@ -3,7 +3,6 @@ use mathlib.Core.Path.{refl}
 use Rattle.geom.specs.Memory.{first_of, element_row}
 use Rattle.geom.specs.Simplices.{triangle}
 use Rattle.division.specs.Shapes.{below, edge_at, edges_of, order_of, row_of, table_of, axes_of, shape_of}
-use borrow.Author.Rules.{rules}
 use native.Mathlib.Omega.{arith}
 use Rattle.simplicial.proofs.triangles.Goals as goal
 

@@ -1,5 +1,4 @@
 -- `subdivision::caps` meets its contract: field by field. Assumes nothing.
-use borrow.Author.Rules.{rules}
 use Rattle.subdivision.proofs.caps.Goals as goal
 
 pub returns : goal.returns

@@ -8,7 +8,6 @@ use Rattle.subdivision.specs.Entry.{desk}
 use Rattle.geom.proofs.Accepted.{accepted_by}
 use Rattle.geom.proofs.Stays.{steady_binary32}
 use Rattle.subdivision.proofs.Door.{held, lends, runs, refuses}
-use borrow.Author.Rules.{rules}
 use Rattle.subdivision.proofs.subdivide.Goals as goal
 
 pub returns-in_default : goal.returns-in_default

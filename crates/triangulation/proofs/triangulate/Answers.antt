@@ -1,15 +1,11 @@
 -- `triangulation::triangulate` meets its contract: judged at the door, its pieces counted and judged, and written (`Door`, `Keeping`). Assumes nothing.
 use mathlib.Core.Path.{sym, ◌∙◌}
 use lib.ListN.{length}
-use Rattle.geom.specs.Memory.{Bench}
-use Rattle.geom.specs.Triangulation.{Cuts}
 use Rattle.judge.specs.Judged.{bench}
 use Rattle.triangulation.specs.Entry.{cuts}
 use Rattle.geom.proofs.Accepted.{accepted_by}
 use Rattle.triangulation.proofs.Keeping.{triangulates}
 use Rattle.triangulation.proofs.Door.{room_areas, room_volumes, refuses, areas_lie, volumes_lie, areas_few, volumes_few, full, done}
-use borrow.Author.Rules.{rules}
-use borrow.Author.Tests.{not-true, not-false}
 use native.Mathlib.Omega.{arith}
 use Rattle.triangulation.proofs.triangulate.Goals as goal
 

@@ -1,6 +1,5 @@
 -- `aljumeste::opening::aljumeste_read` meets its contract: the entry's answer as words. Assumes nothing.
 use Rattle.aljumeste.proofs.Files.{reading_worded, exported_reading}
-use borrow.Author.Rules.{rules}
 use Rattle.aljumeste.proofs.opening.aljumeste_read.Goals as goal
 
 pub tell_reading-requires : goal.tell_reading-requires

@@ -1,6 +1,5 @@
 -- `aljumeste::refinement::aljumeste_subdivide_simplices` meets its contract: the entry's answer as words. Assumes nothing.
 use Rattle.aljumeste.proofs.Numbers.{refines_numbered, exported}
-use borrow.Author.Rules.{rules}
 use Rattle.aljumeste.proofs.refinement.aljumeste_subdivide_simplices.Goals as goal
 
 pub tell-requires : goal.tell-requires

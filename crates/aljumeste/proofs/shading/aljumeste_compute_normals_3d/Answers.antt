@@ -1,7 +1,6 @@
 -- `aljumeste::shading::aljumeste_compute_normals_3d` meets its contract: the entry's answer as a number. Assumes nothing.
 use Rattle.geom.specs.Turning.{three}
 use Rattle.aljumeste.proofs.Numbers.{shades3_numbered, exported_shading}
-use borrow.Author.Rules.{rules}
 use Rattle.aljumeste.proofs.shading.aljumeste_compute_normals_3d.Goals as goal
 
 pub number-requires : goal.number-requires

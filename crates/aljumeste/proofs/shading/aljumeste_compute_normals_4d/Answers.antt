@@ -1,7 +1,6 @@
 -- `aljumeste::shading::aljumeste_compute_normals_4d` meets its contract: the entry's answer as a number. Assumes nothing.
 use Rattle.geom.specs.Turning.{four}
 use Rattle.aljumeste.proofs.Numbers.{shades4_numbered, exported_shading}
-use borrow.Author.Rules.{rules}
 use Rattle.aljumeste.proofs.shading.aljumeste_compute_normals_4d.Goals as goal
 
 pub number-requires : goal.number-requires

@@ -1,6 +1,5 @@
 -- `aljumeste::triangles::aljumeste_triangulate` meets its contract: the entry's answer as words. Assumes nothing.
 use Rattle.aljumeste.proofs.Numbers.{triangulates_numbered, exported_cut}
-use borrow.Author.Rules.{rules}
 use Rattle.aljumeste.proofs.triangles.aljumeste_triangulate.Goals as goal
 
 pub tell_sizes-requires : goal.tell_sizes-requires

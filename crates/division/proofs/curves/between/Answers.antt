@@ -1,5 +1,4 @@
 -- `division::curves::between` meets its contract: the pair goes by the parity. Assumes nothing.
-use borrow.Author.Rules.{rules}
 use Rattle.division.proofs.curves.between.Goals as goal
 
 pub returns-in-Even : goal.returns-in-Even

@@ -3,7 +3,6 @@ use mathlib.Core.Path.{refl}
 use Rattle.geom.specs.Kinds.{kind_of}
 use Rattle.book.specs.Cells.{pairs_of}
 use Rattle.division.proofs.Strands.{curve_empty, curve_crowded, curve_full, curve_strings}
-use borrow.Author.Rules.{rules}
 use native.Mathlib.Omega.{arith}
 use Rattle.division.proofs.curves.curve.Goals as goal
 

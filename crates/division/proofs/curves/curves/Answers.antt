@@ -1,10 +1,9 @@
 -- `division::curves::curves` meets its contract: a curve a turn (`Winding`). Assumes nothing.
 use mathlib.Core.Path.{refl, ◌∙◌}
-use Prim.Native.Nat.{◌+◌, ◌*◌, ◌-◌}
+use Prim.Native.Nat.{◌+◌, ◌*◌}
 use Rattle.geom.specs.Kinds.{kind_of}
 use Rattle.book.specs.Cells.{pairs_of}
-use Rattle.division.proofs.Winding.{Winding, winding_start, winding_room, winding_on, winding_full, winding_done}
-use borrow.Author.Rules.{rules}
+use Rattle.division.proofs.Winding.{winding_start, winding_room, winding_on, winding_full, winding_done}
 use native.Mathlib.Omega.{arith}
 use Rattle.division.proofs.curves.curves.Goals as goal
 

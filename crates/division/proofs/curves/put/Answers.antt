@@ -1,6 +1,5 @@
 -- `division::curves::put` meets its contract: two words, one behind the other. Assumes nothing.
 use Rattle.division.proofs.Threading.{put_written}
-use borrow.Author.Rules.{rules}
 use Rattle.division.proofs.curves.put.Goals as goal
 
 pub returns : goal.returns

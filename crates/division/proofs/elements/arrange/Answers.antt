@@ -5,7 +5,6 @@ use Prim.Native.Nat.{ℕ}
 use lib.Seq.{length-take-le}
 use Rattle.division.specs.Shapes.{below}
 use Rattle.division.proofs.Divided.{order_length, arranged_none, arranged}
-use borrow.Author.Rules.{rules}
 use native.Mathlib.Omega.{arith}
 use Rattle.division.proofs.elements.arrange.Goals as goal
 

@@ -1,9 +1,6 @@
 -- `division::elements::assemble` meets its contract: a row of the table a turn (`Assembling`). Assumes nothing.
 use mathlib.Core.Path.{◌∙◌}
-use Prim.Native.Nat.{◌-◌}
-use lib.ListN.{length}
-use Rattle.division.proofs.Assembling.{laid_length, Assembling, assembling_start, assembling_turn, assembling_on, assembling_full, assembling_done}
-use borrow.Author.Rules.{rules}
+use Rattle.division.proofs.Assembling.{laid_length, assembling_start, assembling_turn, assembling_on, assembling_full, assembling_done}
 use native.Mathlib.Omega.{arith}
 use Rattle.division.proofs.elements.assemble.Goals as goal
 

@@ -1,10 +1,7 @@
 -- `division::elements::assemble` meets its contract: a row of the table a turn (`Assembling`). Assumes nothing.
-use mathlib.Core.Path.{◌∙◌}
 use Prim.Native.Nat.{◌-◌}
 use lib.ListN.{length}
-use Rattle.division.proofs.Assembling.{laid_length, Assembling, assembling_start, assembling_turn, assembling_on, assembling_full, assembling_done}
-use borrow.Author.Rules.{rules}
-use native.Mathlib.Omega.{arith}
+use Rattle.division.proofs.Assembling.{Assembling}
 use Rattle.division.proofs.elements.assemble.Given as goal
 
 abbrev pub invariant-loop-from : goal.invariant-loop-from

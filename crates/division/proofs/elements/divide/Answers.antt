@@ -10,7 +10,6 @@ use Rattle.geom.specs.Memory.{parity_of}
 use Rattle.book.specs.Cells.{pairs_of}
 use Rattle.division.specs.Shapes.{below}
 use Rattle.division.proofs.Divided.{loaded, ordered_is, divided_crowded, divided_full, divided_extends}
-use borrow.Author.Rules.{rules}
 use native.Mathlib.Omega.{arith}
 use Rattle.division.proofs.elements.divide.Goals as goal
 

@@ -5,7 +5,6 @@ use Rattle.geom.specs.Rules.{divide}
 use Rattle.book.specs.Cells.{pairs_of}
 use Rattle.division.specs.Shapes.{shape_of}
 use Rattle.division.proofs.Listing.{from_first}
-use borrow.Author.Rules.{rules}
 use Rattle.division.proofs.elements.divide_all.Goals as goal
 
 pub divide_from-requires : goal.divide_from-requires

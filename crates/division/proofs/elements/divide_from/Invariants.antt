@@ -1,16 +1,11 @@
 -- `division::elements::divide_from` meets its contract: an element a turn (`Ranging`). Assumes nothing.
-use mathlib.Core.Path.{refl, ◌∙◌}
-use Prim.Native.Nat.{ℕ, suc, ◌+◌, ◌-◌, ◌≤◌}
-use native.Mathlib.Omega.{arith}
-use native.Mathlib.Nat.{mul-le-mul_left, le_trans}
+use Prim.Native.Nat.{ℕ, ◌+◌, ◌-◌}
 use Rattle.geom.specs.Kinds.{kind_of}
 use Rattle.geom.specs.Memory.{element_row}
 use Rattle.geom.specs.Rules.{divide}
 use Rattle.book.specs.Cells.{pairs_of}
 use Rattle.division.specs.Shapes.{shape_of}
-use Rattle.division.proofs.Divided.{divide_grows}
-use Rattle.division.proofs.Listing.{Ranging, ranging_start, ranging_on, ranging_full, ranging_done}
-use borrow.Author.Rules.{rules}
+use Rattle.division.proofs.Listing.{Ranging}
 use Rattle.division.proofs.elements.divide_from.Given as goal
 
 abbrev pub invariant-loop-i : goal.invariant-loop-i

@@ -1,10 +1,8 @@
 -- `division::elements::flat` meets its contract: an axis a turn (`Flattening`). Assumes nothing.
-use mathlib.Core.Path.{sym, ◌∙◌}
 use Prim.Native.Nat.{◌-◌}
 use lib.ListN.{length, take, drop}
 use Rattle.geom.specs.Elements.{pick}
-use Rattle.division.proofs.Flats.{Flattening, flattening_start, flattening_on, flattening_found, flattening_done}
-use native.Mathlib.Omega.{arith}
+use Rattle.division.proofs.Flats.{Flattening}
 use Rattle.division.proofs.elements.flat.Given as goal
 
 abbrev pub invariant-loop-axis : goal.invariant-loop-axis

@@ -3,7 +3,6 @@ use mathlib.Core.Path.{refl, sym, ◌∙◌, ap}
 use lib.ListN.{length}
 use Rattle.geom.specs.Memory.{parity_word}
 use Rattle.division.proofs.Assembling.{row_room, kept_flat, kept_full, kept_laid}
-use borrow.Author.Rules.{rules}
 use native.Mathlib.Omega.{arith}
 use Rattle.division.proofs.elements.keep.Goals as goal
 

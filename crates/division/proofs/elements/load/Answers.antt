@@ -1,8 +1,5 @@
 -- `division::elements::load` meets its contract: a copy, word by word. Assumes nothing.
-use Prim.Native.Nat.{ℕ, ◌+◌, ◌-◌}
-use lib.ListN.{get_or}
-use Rattle.division.proofs.Rows.{first_of_part, Copying, copying_start, copying_length, copying_on, copying_done}
-use borrow.Author.Rules.{rules}
+use Rattle.division.proofs.Rows.{first_of_part, copying_start, copying_length, copying_on, copying_done}
 use native.Mathlib.Omega.{arith}
 use Rattle.division.proofs.elements.load.Goals as goal
 

@@ -1,9 +1,7 @@
 -- `division::elements::load` meets its contract: a copy, word by word. Assumes nothing.
 use Prim.Native.Nat.{ℕ, ◌+◌, ◌-◌}
 use lib.ListN.{get_or}
-use Rattle.division.proofs.Rows.{first_of_part, Copying, copying_start, copying_length, copying_on, copying_done}
-use borrow.Author.Rules.{rules}
-use native.Mathlib.Omega.{arith}
+use Rattle.division.proofs.Rows.{Copying}
 use Rattle.division.proofs.elements.load.Given as goal
 
 abbrev pub invariant-loop-i : goal.invariant-loop-i

@@ -4,7 +4,6 @@ use Rattle.geom.specs.Kinds.{kind_of}
 use Rattle.division.specs.Shapes.{below}
 use Rattle.book.proofs.Placing.{answers, refuses}
 use Rattle.division.proofs.Middles.{middle_placed, middle_crowded}
-use borrow.Author.Rules.{rules}
 use native.Mathlib.Omega.{arith}
 use Rattle.division.proofs.elements.middle.Goals as goal
 

@@ -1,12 +1,7 @@
 -- `division::elements::middles` meets its contract: an edge a turn (`Middling`). Assumes nothing.
-use mathlib.Core.Path.{◌≡◌, refl, ◌∙◌}
-use Prim.Native.Nat.{◌-◌}
-use lib.ListN.{length}
-use Rattle.geom.specs.Kinds.{kind_of}
-use Rattle.book.specs.Cells.{pairs_of}
+use mathlib.Core.Path.{refl, ◌∙◌}
 use Rattle.book.proofs.Placing.{outgrows}
-use Rattle.division.proofs.Middles.{Middling, middling_start, middling_length, middling_turn, middling_asks, middling_on, middling_full, middling_done}
-use borrow.Author.Rules.{rules}
+use Rattle.division.proofs.Middles.{middling_start, middling_length, middling_turn, middling_asks, middling_on, middling_full, middling_done}
 use native.Mathlib.Omega.{arith}
 use Rattle.division.proofs.elements.middles.Goals as goal
 

@@ -1,13 +1,10 @@
 -- `division::elements::middles` meets its contract: an edge a turn (`Middling`). Assumes nothing.
-use mathlib.Core.Path.{◌≡◌, refl, ◌∙◌}
+use mathlib.Core.Path.{◌≡◌}
 use Prim.Native.Nat.{◌-◌}
 use lib.ListN.{length}
 use Rattle.geom.specs.Kinds.{kind_of}
 use Rattle.book.specs.Cells.{pairs_of}
-use Rattle.book.proofs.Placing.{outgrows}
-use Rattle.division.proofs.Middles.{Middling, middling_start, middling_length, middling_turn, middling_asks, middling_on, middling_full, middling_done}
-use borrow.Author.Rules.{rules}
-use native.Mathlib.Omega.{arith}
+use Rattle.division.proofs.Middles.{Middling}
 use Rattle.division.proofs.elements.middles.Given as goal
 
 abbrev pub invariant-loop-i : goal.invariant-loop-i

@@ -1,8 +1,7 @@
 -- `division::elements::piece` meets its contract: a copy of the points at the places, word by word. Assumes nothing.
 use mathlib.Core.Path.{refl}
-use Prim.Native.Nat.{ℕ, ◌+◌, ◌-◌}
-use lib.ListN.{length, get_or}
-use Rattle.division.proofs.Rows.{first_of_pick, Copying, copying_start, copying_length, copying_on, copying_done}
+use lib.ListN.{length}
+use Rattle.division.proofs.Rows.{first_of_pick, copying_start, copying_length, copying_on, copying_done}
 use Rattle.division.proofs.Tables.{below_at}
 use native.Mathlib.Omega.{arith}
 use Rattle.division.proofs.elements.piece.Goals as goal

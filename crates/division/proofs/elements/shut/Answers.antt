@@ -1,11 +1,9 @@
 -- `division::elements::shut` meets its contract: an edge a turn (`Shutting`). Assumes nothing.
 use mathlib.Core.Path.{◌∙◌}
-use mathlib.Core.Logic.{⊎_elim}
-use Prim.Native.Nat.{◌-◌, ◌/◌}
-use lib.ListN.{length, take, drop}
-use Rattle.geom.specs.Elements.{pick}
+use Prim.Native.Nat.{◌/◌}
+use lib.ListN.{length}
 use Rattle.division.proofs.Tables.{below_at}
-use Rattle.division.proofs.Flats.{corner_at, Shutting, ShutTurn, shut_turn, shutting_start, shutting_on, shutting_open, shutting_done}
+use Rattle.division.proofs.Flats.{corner_at, shut_turn, shutting_start, shutting_on, shutting_open, shutting_done}
 use native.Mathlib.Omega.{arith}
 use borrow.Author.Tests.{eq-eqb, ne_eqb}
 use Rattle.division.proofs.elements.shut.Goals as goal
@@ -76,11 +74,11 @@ returns c =
     let s = c.args in
     let g = c.loop-i.invariant in
     elim c.loop-i-test.branch [
-      else-loop-i-test w ↦
-        eq-eqb c.loop-i.i (s.corners / 2) (omega (arith, g.within, w.loop-i-test.false)) ∙ shutting_done g w.loop-i-test.false
-    | then-loop-i-test+then-a-b w ↦
-        let t = shut_turn _ _ _ _ _ _ c.requires.tabled.along c.requires.corners_in_bounds c.requires.corners_in_bounds_2 w.loop-i-test.true in
-        let a = w.point_at-a.ensures ∙ corner_at s.points.now s.table.now s.from s.corners _ t.row t.first in
-        let b = w.point_at-b.ensures ∙ corner_at s.points.now s.table.now s.from s.corners _ t.row t.second in
-        ne_eqb c.loop-i.i (s.corners / 2) (λ e. omega (arith, t.turn)) ∙ shutting_open g t.turn a b w.if-a-b.true
+      | else-loop-i-test w ↦
+          eq-eqb c.loop-i.i (s.corners / 2) (omega (arith, g.within, w.loop-i-test.false)) ∙ shutting_done g w.loop-i-test.false
+      | then-loop-i-test+then-a-b w ↦
+          let t = shut_turn _ _ _ _ _ _ c.requires.tabled.along c.requires.corners_in_bounds c.requires.corners_in_bounds_2 w.loop-i-test.true in
+          let a = w.point_at-a.ensures ∙ corner_at s.points.now s.table.now s.from s.corners _ t.row t.first in
+          let b = w.point_at-b.ensures ∙ corner_at s.points.now s.table.now s.from s.corners _ t.row t.second in
+          ne_eqb c.loop-i.i (s.corners / 2) (λ e. omega (arith, t.turn)) ∙ shutting_open g t.turn a b w.if-a-b.true
     ]

@@ -3,7 +3,6 @@ use mathlib.Core.Path.{◌∙◌, ap}
 use Rattle.geom.specs.declared.parity.Parity.{Parity}
 use Rattle.geom.specs.Parity.{times}
 use Rattle.geom.proofs.Rows.{parity_odd}
-use borrow.Author.Rules.{rules}
 use Rattle.division.proofs.elements.turned.Goals as goal
 
 pub returns : goal.returns

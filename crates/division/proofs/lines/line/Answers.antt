@@ -8,7 +8,6 @@ use Rattle.geom.specs.Memory.{first_of, element_row}
 use Rattle.division.specs.Shapes.{below, row_of, table_of, axes_of}
 use Rattle.book.proofs.Placing.{outgrows}
 use Rattle.division.proofs.Halving.{line_crowded, line_known, line_full, line_extends}
-use borrow.Author.Rules.{rules}
 use native.Mathlib.Omega.{arith}
 use Rattle.division.proofs.lines.line.Goals as goal
 

@@ -1,6 +1,5 @@
 -- `division::lines::lines` meets its contract: by the table of a line's pieces. Assumes nothing.
 use mathlib.Core.Path.{refl}
-use borrow.Author.Rules.{rules}
 use Rattle.division.proofs.lines.lines.Goals as goal
 
 pub lines_by-requires : goal.lines_by-requires

@@ -1,12 +1,10 @@
 -- `division::lines::lines_by` meets its contract: a line a turn (`Listing`). Assumes nothing.
 use mathlib.Core.Path.{refl, ◌∙◌}
-use Prim.Native.Nat.{◌-◌}
 use Rattle.geom.specs.Kinds.{kind_of}
 use Rattle.geom.specs.Rules.{line}
 use Rattle.book.specs.Cells.{pairs_of}
 use Rattle.division.proofs.Halving.{line_grows}
-use Rattle.division.proofs.Listing.{Listing, listing_start, listing_on, listing_full, listing_done}
-use borrow.Author.Rules.{rules}
+use Rattle.division.proofs.Listing.{listing_start, listing_on, listing_full, listing_done}
 use native.Mathlib.Omega.{arith}
 use Rattle.division.proofs.lines.lines_by.Goals as goal
 

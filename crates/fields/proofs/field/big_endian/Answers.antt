@@ -3,7 +3,6 @@ use mathlib.Core.Path.{refl}
 use Prim.Native.Nat.{◌+◌}
 use native.Mathlib.Omega.{arith}
 use Rattle.fields.specs.Fields.{word_at}
-use borrow.Author.Rules.{rules}
 use Rattle.fields.proofs.field.big_endian.Goals as goal
 
 pub overflow_cast-a : goal.overflow_cast-a

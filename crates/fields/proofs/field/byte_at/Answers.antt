@@ -2,7 +2,6 @@
 use mathlib.Core.Path.{refl}
 use native.Mathlib.Omega.{arith}
 use Rattle.fields.proofs.Reading.{byte_reads, byte_ends}
-use borrow.Author.Rules.{rules}
 use Rattle.fields.proofs.field.byte_at.Goals as goal
 
 pub returns-then-src-at : goal.returns-then-src-at

@@ -2,7 +2,6 @@
 use native.Mathlib.Omega.{arith}
 use lib.Ieee.{div, of_bits}
 use Rattle.fields.proofs.Reading.{no_nan_pattern, nan_pattern}
-use borrow.Author.Rules.{rules}
 use Rattle.fields.proofs.field.float_of.Goals as goal
 
 pub returns-then-pattern-gt-INFINITY : goal.returns-then-pattern-gt-INFINITY

@@ -1,7 +1,6 @@
 -- `fields::field::word_at` meets its contract. Assumes nothing.
 use native.Mathlib.Omega.{arith}
 use Rattle.fields.proofs.Reading.{word_reads, word_ends}
-use borrow.Author.Rules.{rules}
 use Rattle.fields.proofs.field.word_at.Goals as goal
 
 pub returns-then-src-at : goal.returns-then-src-at

@@ -1,7 +1,6 @@
 -- `fields::listed::element_list` meets its contract. Assumes nothing.
 use native.Mathlib.Omega.{arith}
 use Rattle.fields.proofs.Listing.{count_stops, rows_stop}
-use borrow.Author.Rules.{rules}
 use Rattle.fields.proofs.listed.element_list.Goals as goal
 
 pub returns-in_default : goal.returns-in_default

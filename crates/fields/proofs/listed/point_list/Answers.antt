@@ -1,7 +1,6 @@
 -- `fields::listed::point_list` meets its contract. Assumes nothing.
 use native.Mathlib.Omega.{arith}
 use Rattle.fields.proofs.Listing.{count_stops, rows_stop}
-use borrow.Author.Rules.{rules}
 use Rattle.fields.proofs.listed.point_list.Goals as goal
 
 pub returns-in_default : goal.returns-in_default

@@ -1,5 +1,4 @@
 -- `fields::rows::carried` meets its contract. Assumes nothing.
-use borrow.Author.Rules.{rules}
 use Rattle.fields.proofs.rows.carried.Goals as goal
 
 pub returns-in-Value : goal.returns-in-Value

@@ -4,7 +4,6 @@ use Rattle.geom.specs.File.{word, coordinate}
 use lib.Ieee.{binary32, of_bits}
 use Rattle.geom.specs.Refusals.{good_coordinate}
 use Rattle.fields.proofs.Reading.{judged_on, judged_off, stopped}
-use borrow.Author.Rules.{rules}
 use Rattle.fields.proofs.rows.coordinate.Goals as goal
 
 pub returns-then-coordinate_holds : goal.returns-then-coordinate_holds

@@ -2,7 +2,6 @@
 use mathlib.Core.Path.{refl}
 use Rattle.geom.specs.File.{word, counted}
 use Rattle.fields.proofs.Reading.{counted_on, counted_above, counted_many, stopped}
-use borrow.Author.Rules.{rules}
 use Rattle.fields.proofs.rows.counted.Goals as goal
 
 pub returns-in_default : goal.returns-in_default

@@ -1,7 +1,6 @@
 -- `fields::rows::curve` meets its contract: four fields, two of them runs. Assumes nothing.
 use native.Mathlib.Omega.{arith}
 use Rattle.fields.proofs.Curves.{tag_stop, count_stop, vertices_stop, parities_stop, curve_read}
-use borrow.Author.Rules.{rules}
 use Rattle.fields.proofs.rows.curve.Goals as goal
 
 pub returns-in_default : goal.returns-in_default

@@ -2,7 +2,6 @@
 use Rattle.geom.specs.File.{word, curve_count}
 use Rattle.fields.proofs.Reading.{stopped}
 use Rattle.fields.proofs.Curves.{count_none, count_above, count_many, count_on}
-use borrow.Author.Rules.{rules}
 use Rattle.fields.proofs.rows.curve_count.Goals as goal
 
 pub returns-in_default : goal.returns-in_default

@@ -1,8 +1,6 @@
 -- `fields::rows::curves` meets its contract: the curves passed were read, and the next begins behind them. Assumes nothing.
 use native.Mathlib.Omega.{arith}
-use Prim.Native.Nat.{◌-◌}
-use Rattle.fields.proofs.Curves.{Winding, winding_start, winding_on, winding_off, winding_done}
-use borrow.Author.Rules.{rules}
+use Rattle.fields.proofs.Curves.{winding_start, winding_on, winding_off, winding_done}
 use Rattle.fields.proofs.rows.curves.Goals as goal
 
 pub loop-i-init : goal.loop-i-init

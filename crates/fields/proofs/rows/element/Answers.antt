@@ -1,7 +1,6 @@
 -- `fields::rows::element` meets its contract. Assumes nothing.
 use native.Mathlib.Omega.{arith}
 use Rattle.fields.proofs.Vertices.{corners_stop, parity_passes}
-use borrow.Author.Rules.{rules}
 use Rattle.fields.proofs.rows.element.Goals as goal
 
 pub returns-in_default : goal.returns-in_default

@@ -1,10 +1,8 @@
 -- `fields::rows::elements` meets its contract: the elements passed were read. Assumes nothing.
-use native.Mathlib.Omega.{arith}
 use Prim.Native.Nat.{ℕ, ◌-◌, ◌+◌, ◌*◌, ◌≤◌}
 use Rattle.geom.specs.File.{element}
-use Rattle.fields.specs.Fields.{wide, element_at}
-use Rattle.fields.proofs.Several.{Rows, rows_start, rows_on, rows_off, rows_done}
-use borrow.Author.Rules.{rules}
+use Rattle.fields.specs.Fields.{element_at}
+use Rattle.fields.proofs.Several.{Rows}
 use Rattle.fields.proofs.rows.elements.Given as goal
 
 abbrev pub invariant-loop-i : goal.invariant-loop-i

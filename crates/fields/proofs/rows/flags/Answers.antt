@@ -3,7 +3,6 @@ use Rattle.geom.specs.File.{byte}
 use Rattle.fields.specs.Fields.{flags_field}
 use Rattle.fields.proofs.Reading.{stopped}
 use Rattle.fields.proofs.Vertices.{flags_on, flags_off}
-use borrow.Author.Rules.{rules}
 use Rattle.fields.proofs.rows.flags.Goals as goal
 
 pub returns-then-flags-gt15 : goal.returns-then-flags-gt15

@@ -1,7 +1,6 @@
 -- `fields::rows::number` meets its contract. Assumes nothing.
 use Rattle.geom.specs.File.{word, number}
 use Rattle.fields.proofs.Reading.{number_on, number_off, stopped}
-use borrow.Author.Rules.{rules}
 use Rattle.fields.proofs.rows.number.Goals as goal
 
 pub returns-then-vertex-count : goal.returns-then-vertex-count

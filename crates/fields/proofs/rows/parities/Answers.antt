@@ -1,10 +1,8 @@
 -- `fields::rows::parities` meets its contract: the parities passed were read. Assumes nothing.
 use native.Mathlib.Omega.{arith}
-use Prim.Native.Nat.{ℕ, ◌-◌, ◌+◌, ◌≤◌}
-use Rattle.geom.specs.File.{parity}
+use Prim.Native.Nat.{ℕ, ◌+◌}
 use Rattle.fields.specs.Fields.{parity_at}
-use Rattle.fields.proofs.Several.{Rows, rows_start, rows_on, rows_off, rows_done, one}
-use borrow.Author.Rules.{rules}
+use Rattle.fields.proofs.Several.{rows_start, rows_on, rows_off, rows_done, one}
 use Rattle.fields.proofs.rows.parities.Goals as goal
 
 pub loop-i-init : goal.loop-i-init

@@ -1,7 +1,6 @@
 -- `fields::rows::parity` meets its contract. Assumes nothing.
 use Rattle.geom.specs.File.{byte, parity}
 use Rattle.fields.proofs.Reading.{parity_on, parity_off, stopped}
-use borrow.Author.Rules.{rules}
 use Rattle.fields.proofs.rows.parity.Goals as goal
 
 pub returns-then-p-gt1 : goal.returns-then-p-gt1

@@ -1,7 +1,6 @@
 -- `fields::rows::vertex` meets its contract: seven fields. Assumes nothing.
 use native.Mathlib.Omega.{arith}
 use Rattle.fields.proofs.Vertices.{x_stops, y_stops, z_stops, w_stops, flags_stops, tag_stops, k_passes}
-use borrow.Author.Rules.{rules}
 use Rattle.fields.proofs.rows.vertex.Goals as goal
 
 pub returns-in_default : goal.returns-in_default

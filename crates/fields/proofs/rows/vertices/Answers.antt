@@ -1,10 +1,8 @@
 -- `fields::rows::vertices` meets its contract: the vertices passed were read. Assumes nothing.
 use native.Mathlib.Omega.{arith}
-use Prim.Native.Nat.{ℕ, ◌-◌, ◌+◌, ◌*◌, ◌≤◌}
-use Rattle.geom.specs.File.{vertex}
+use Prim.Native.Nat.{ℕ, ◌+◌, ◌*◌}
 use Rattle.fields.specs.Fields.{vertex_at}
-use Rattle.fields.proofs.Several.{Rows, rows_start, rows_on, rows_off, rows_done}
-use borrow.Author.Rules.{rules}
+use Rattle.fields.proofs.Several.{rows_start, rows_on, rows_off, rows_done}
 use Rattle.fields.proofs.rows.vertices.Goals as goal
 
 pub loop-i-init : goal.loop-i-init

@@ -1,10 +1,8 @@
 -- `fields::rows::vertices` meets its contract: the vertices passed were read. Assumes nothing.
-use native.Mathlib.Omega.{arith}
 use Prim.Native.Nat.{ℕ, ◌-◌, ◌+◌, ◌*◌, ◌≤◌}
 use Rattle.geom.specs.File.{vertex}
 use Rattle.fields.specs.Fields.{vertex_at}
-use Rattle.fields.proofs.Several.{Rows, rows_start, rows_on, rows_off, rows_done}
-use borrow.Author.Rules.{rules}
+use Rattle.fields.proofs.Several.{Rows}
 use Rattle.fields.proofs.rows.vertices.Given as goal
 
 abbrev pub invariant-loop-i : goal.invariant-loop-i

@@ -1,6 +1,5 @@
 -- `figure::writing::parity_word` meets its contract. Assumes nothing.
 use Rattle.figure.proofs.Elements.{odd_word}
-use borrow.Author.Rules.{rules}
 use Rattle.figure.proofs.writing.parity_word.Goals as goal
 
 pub returns : goal.returns

@@ -1,6 +1,5 @@
 -- `figure::writing::put_curve` meets its contract. Assumes nothing.
 use Rattle.figure.proofs.Strings.{curve_wound}
-use borrow.Author.Rules.{rules}
 use Rattle.figure.proofs.writing.put_curve.Goals as goal
 
 pub returns : goal.returns

@@ -1,8 +1,6 @@
 -- `figure::writing::put_curves` meets its contract: the curves passed were written. Assumes nothing.
 use native.Mathlib.Omega.{arith}
-use Prim.Native.Nat.{◌+◌, ◌-◌}
-use Rattle.figure.proofs.Strings.{Stringing, begins, stringing_start, stringing_rows, stringing_words, stringing_next, stringing_on, stringing_done}
-use borrow.Author.Rules.{rules}
+use Rattle.figure.proofs.Strings.{begins, stringing_start, stringing_rows, stringing_words, stringing_next, stringing_on, stringing_done}
 use Rattle.figure.proofs.writing.put_curves.Goals as goal
 
 pub overflow_add-place : goal.overflow_add-place

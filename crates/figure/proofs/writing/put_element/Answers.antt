@@ -1,6 +1,5 @@
 -- `figure::writing::put_element` meets its contract. Assumes nothing.
 use Rattle.figure.proofs.Elements.{element_written}
-use borrow.Author.Rules.{rules}
 use Rattle.figure.proofs.writing.put_element.Goals as goal
 
 pub returns : goal.returns

@@ -1,9 +1,6 @@
 -- `figure::writing::put_elements` meets its contract: the elements passed were written. Assumes nothing.
-use mathlib.Core.Path.{refl}
-use native.Mathlib.Omega.{arith}
 use Prim.Native.Nat.{◌+◌, ◌-◌}
-use Rattle.figure.proofs.Elements.{Elements, elements_start, elements_length, elements_on, elements_done, row_stands}
-use borrow.Author.Rules.{rules}
+use Rattle.figure.proofs.Elements.{Elements}
 use Rattle.figure.proofs.writing.put_elements.Given as goal
 
 abbrev pub invariant-loop-i : goal.invariant-loop-i

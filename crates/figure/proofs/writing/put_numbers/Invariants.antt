@@ -1,8 +1,6 @@
 -- `figure::writing::put_numbers` meets its contract: the numbers passed were written. Assumes nothing.
-use native.Mathlib.Omega.{arith}
 use Prim.Native.Nat.{◌-◌}
-use Rattle.figure.proofs.Elements.{Numbers, numbers_start, numbers_length, numbers_on, numbers_done}
-use borrow.Author.Rules.{rules}
+use Rattle.figure.proofs.Elements.{Numbers}
 use Rattle.figure.proofs.writing.put_numbers.Given as goal
 
 abbrev pub invariant-loop-i : goal.invariant-loop-i

@@ -2,7 +2,6 @@
 use native.Mathlib.Omega.{arith}
 use mathlib.Core.Path.{refl, ◌∙◌}
 use Rattle.figure.proofs.Elements.{numbers_over}
-use borrow.Author.Rules.{rules}
 use Rattle.figure.proofs.writing.put_points.Goals as goal
 
 pub overflow_add-start : goal.overflow_add-start

@@ -1,9 +1,7 @@
 -- `figure::writing::put_steps` meets its contract: the vertices passed were written. Assumes nothing.
 use native.Mathlib.Omega.{arith}
-use Prim.Native.Nat.{◌-◌}
 use lib.ListN.{length-set}
-use Rattle.figure.proofs.Strings.{Stepping, stepping_start, stepping_length, stepping_on, stepping_done}
-use borrow.Author.Rules.{rules}
+use Rattle.figure.proofs.Strings.{stepping_start, stepping_length, stepping_on, stepping_done}
 use Rattle.figure.proofs.writing.put_steps.Goals as goal
 
 pub loop-j-init : goal.loop-j-init

@@ -1,9 +1,6 @@
 -- `figure::writing::put_steps` meets its contract: the vertices passed were written. Assumes nothing.
-use native.Mathlib.Omega.{arith}
 use Prim.Native.Nat.{◌-◌}
-use lib.ListN.{length-set}
-use Rattle.figure.proofs.Strings.{Stepping, stepping_start, stepping_length, stepping_on, stepping_done}
-use borrow.Author.Rules.{rules}
+use Rattle.figure.proofs.Strings.{Stepping}
 use Rattle.figure.proofs.writing.put_steps.Given as goal
 
 abbrev pub invariant-loop-j : goal.invariant-loop-j

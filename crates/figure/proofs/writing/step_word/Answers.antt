@@ -1,6 +1,5 @@
 -- `figure::writing::step_word` meets its contract. Assumes nothing.
 use Rattle.figure.proofs.Strings.{step_last, step_next}
-use borrow.Author.Rules.{rules}
 use Rattle.figure.proofs.writing.step_word.Goals as goal
 
 pub returns-then-count-j : goal.returns-then-count-j

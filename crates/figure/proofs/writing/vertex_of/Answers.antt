@@ -3,7 +3,6 @@ use native.Mathlib.Omega.{arith}
 use mathlib.Core.Path.{refl}
 use Prim.Native.Nat.{◌+◌}
 use Rattle.fields.specs.Fields.{vertex_at}
-use borrow.Author.Rules.{rules}
 use Rattle.figure.proofs.writing.vertex_of.Goals as goal
 
 pub overflow_cast-flags : goal.overflow_cast-flags

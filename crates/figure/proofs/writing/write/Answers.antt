@@ -1,10 +1,7 @@
 -- `figure::writing::write` meets its contract: each list is written where the one before it ended (`Benches`). Assumes nothing.
 use mathlib.Core.Path.{◌≡◌, ◌∙◌, ap}
-use Prim.Native.Nat.{ℕ, ◌+◌, ◌*◌}
 use native.Mathlib.Omega.{arith}
 use Rattle.geom.specs.Kinds.{kind_of}
-use Rattle.judge.specs.Judged.{bench}
-use Rattle.fields.specs.Fields.{wide}
 use Rattle.reading.specs.Places.{points_place, lines_place, areas_place, volumes_place, curves_place}
 use Rattle.figure.proofs.Benches.{vertices_stand, vertices_room, points_ready, lines_ready, areas_ready, volumes_ready, curves_ready, written}
 use Rattle.figure.proofs.writing.write.Goals as goal
@@ -24,14 +21,14 @@ pub put_elements-requires : goal.put_elements-requires
 put_elements-requires c =
     let src = ap (λ x. x.now) c.set_up-r.ensures.0 in
     let lines : c.put_points.result ≡ lines_place c.args.s =
-      omega (arith, c.set_up-r.ensures.1, c.put_vertices.ensures.0, c.put_points.ensures.0) in
+    omega (arith, c.set_up-r.ensures.1, c.put_vertices.ensures.0, c.put_points.ensures.0) in
     rw (lines, src) (lines_ready _ _ _ _ c.requires)
 
 pub put_elements-requires-2 : goal.put_elements-requires-2
 put_elements-requires-2 c =
     let src = ap (λ x. x.now) c.set_up-r.ensures.0 in
     let areas : c.put_elements.result ≡ areas_place c.args.s =
-      omega (arith, c.set_up-r.ensures.1, c.put_vertices.ensures.0, c.put_points.ensures.0, c.put_elements.ensures.0) in
+    omega (arith, c.set_up-r.ensures.1, c.put_vertices.ensures.0, c.put_points.ensures.0, c.put_elements.ensures.0) in
     rw (areas, src, c.area_corners.ensures) (areas_ready _ _ _ _ c.requires)
 
 -- where the volumes' count stands
@@ -39,20 +36,20 @@ pub put_elements-requires-3 : goal.put_elements-requires-3
 put_elements-requires-3 c =
     let src = ap (λ x. x.now) c.set_up-r.ensures.0 in
     let areas : c.put_elements.result ≡ areas_place c.args.s =
-      omega (arith, c.set_up-r.ensures.1, c.put_vertices.ensures.0, c.put_points.ensures.0, c.put_elements.ensures.0) in
+    omega (arith, c.set_up-r.ensures.1, c.put_vertices.ensures.0, c.put_points.ensures.0, c.put_elements.ensures.0) in
     let volumes : c.put_elements-2.result ≡ volumes_place (kind_of c.args.kind) c.args.s =
-      c.put_elements-2.ensures.0 ∙ rw (areas, c.area_corners.ensures) in
+    c.put_elements-2.ensures.0 ∙ rw (areas, c.area_corners.ensures) in
     rw (volumes, src, c.volume_corners.ensures) (volumes_ready _ _ _ _ c.requires)
 
 pub put_curves-requires : goal.put_curves-requires
 put_curves-requires c =
     let src = ap (λ x. x.now) c.set_up-r.ensures.0 in
     let areas : c.put_elements.result ≡ areas_place c.args.s =
-      omega (arith, c.set_up-r.ensures.1, c.put_vertices.ensures.0, c.put_points.ensures.0, c.put_elements.ensures.0) in
+    omega (arith, c.set_up-r.ensures.1, c.put_vertices.ensures.0, c.put_points.ensures.0, c.put_elements.ensures.0) in
     let volumes : c.put_elements-2.result ≡ volumes_place (kind_of c.args.kind) c.args.s =
-      c.put_elements-2.ensures.0 ∙ rw (areas, c.area_corners.ensures) in
+    c.put_elements-2.ensures.0 ∙ rw (areas, c.area_corners.ensures) in
     let curves : c.put_elements-3.result ≡ curves_place (kind_of c.args.kind) c.args.s =
-      c.put_elements-3.ensures.0 ∙ rw (volumes, c.volume_corners.ensures) in
+    c.put_elements-3.ensures.0 ∙ rw (volumes, c.volume_corners.ensures) in
     rw (curves, src) (curves_ready _ _ _ _ c.requires)
 
 pub returns : goal.returns
@@ -63,9 +60,9 @@ returns c =
     let lines : c.put_points.result ≡ lines_place c.args.s = omega (arith, points, c.put_points.ensures.0) in
     let areas : c.put_elements.result ≡ areas_place c.args.s = omega (arith, lines, c.put_elements.ensures.0) in
     let volumes : c.put_elements-2.result ≡ volumes_place (kind_of c.args.kind) c.args.s =
-      c.put_elements-2.ensures.0 ∙ rw (areas, c.area_corners.ensures) in
+    c.put_elements-2.ensures.0 ∙ rw (areas, c.area_corners.ensures) in
     let curves : c.put_elements-3.result ≡ curves_place (kind_of c.args.kind) c.args.s =
-      c.put_elements-3.ensures.0 ∙ rw (volumes, c.volume_corners.ensures) in
+    c.put_elements-3.ensures.0 ∙ rw (volumes, c.volume_corners.ensures) in
     written _ _ _ _ c.requires _ _ _ _ _ _ _ _
     (rw (first, src) at c.put_vertices.ensures.1)
     (rw (points, src) at c.put_points.ensures.1)

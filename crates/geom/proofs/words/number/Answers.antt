@@ -1,5 +1,4 @@
 -- `geom::words::number` meets its contract. Assumes nothing.
-use borrow.Author.Rules.{rules}
 use lib.Ieee.{nan}
 use Rattle.numbers.specs.Binary32 as Binary32
 use Rattle.geom.proofs.Rows.{get_d_any}

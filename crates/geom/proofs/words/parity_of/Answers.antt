@@ -1,6 +1,5 @@
 -- `geom::words::parity_of` meets its contract. Assumes nothing.
 use Rattle.geom.proofs.Rows.{parity_odd}
-use borrow.Author.Rules.{rules}
 use Rattle.geom.proofs.words.parity_of.Goals as goal
 
 pub returns : goal.returns

@@ -1,6 +1,5 @@
 -- `geom::words::word` meets its contract. Assumes nothing.
 use native.Mathlib.Omega.{arith}
-use borrow.Author.Rules.{rules}
 use Rattle.geom.proofs.words.word.Goals as goal
 
 pub overflow_cast-result : goal.overflow_cast-result

@@ -1,5 +1,4 @@
 -- `judge::counts::benches_hold` meets its contract. Assumes nothing.
-use borrow.Author.Rules.{rules}
 use Rattle.judge.proofs.Verdicts.{benches_are}
 use Rattle.judge.proofs.counts.benches_hold.Goals as goal
 

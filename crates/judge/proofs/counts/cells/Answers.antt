@@ -1,6 +1,5 @@
 -- `judge::counts::cells` meets its contract. Assumes nothing.
 use native.Mathlib.Omega.{arith}
-use borrow.Author.Rules.{rules}
 use Rattle.geom.specs.Kinds.{kind_of}
 use Rattle.judge.proofs.Verdicts.{area_few, volume_few, cells_are}
 use Rattle.judge.proofs.counts.cells.Goals as goal

@@ -1,7 +1,5 @@
 -- `judge::mesh::counts_hold` meets its contract. Assumes nothing.
-use borrow.Author.Rules.{rules}
 use mathlib.Core.Path.{◌∙◌}
-use borrow.Author.Tests.{not-true, not-false}
 use Rattle.judge.proofs.Verdicts.{lent_told, curves_room, counts_off, counts_on}
 use Rattle.judge.proofs.mesh.counts_hold.Goals as goal
 

@@ -1,13 +1,10 @@
 -- `judge::mesh::handed_in` meets its contract: the tests are made in the order of the refusals, and what passed leaves room for what comes next.
 -- Assumes nothing.
 use Rattle.geom.specs.Forms.{floats}
-use borrow.Author.Rules.{rules}
-use mathlib.Core.Path.{◌≡◌, refl, sym, ◌∙◌}
-use mathlib.Core.Bool.{true}
-use borrow.Author.Tests.{not-true, not-false}
+use mathlib.Core.Path.{refl, sym, ◌∙◌}
 use Rattle.geom.specs.Answers.{verdict_of}
-use Rattle.geom.specs.Memory.{Bench, Rows, rows_of}
-use Rattle.geom.specs.Refusals.{every, good_curve, counts_hold, marks_hold, positions_hold, numbers_hold}
+use Rattle.geom.specs.Memory.{rows_of}
+use Rattle.geom.specs.Refusals.{positions_hold}
 use Rattle.geom.specs.Kinds.{kind_of}
 use Rattle.judge.specs.Judged.{bench}
 use Rattle.judge.proofs.Verdicts.{counts_positions, counts_curves, counts_marked, counts_numbered, due_counts, due_benches, due_marks, due_time, due_positions, due_numbers, due_curves, due_limits, due_none}

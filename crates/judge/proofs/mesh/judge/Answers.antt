@@ -1,8 +1,6 @@
 -- `judge::mesh::judge` meets its contract: what a refinement asks beyond the mesh at 9 and at 5, and the tests of the mesh.
 -- Assumes nothing.
-use borrow.Author.Rules.{rules}
 use Rattle.geom.specs.Kinds.{kind_of}
-use Rattle.geom.specs.Memory.{Bench}
 use Rattle.geom.specs.Refusals.{good_parity}
 use Rattle.judge.specs.Judged.{bench}
 use Rattle.judge.proofs.Verdicts.{told}

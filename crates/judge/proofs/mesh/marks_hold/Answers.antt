@@ -1,8 +1,6 @@
 -- `judge::mesh::marks_hold` meets its contract, list by list. Assumes nothing.
 use Rattle.geom.specs.Forms.{form}
-use borrow.Author.Rules.{rules}
 use mathlib.Core.Path.{refl, sym, ◌∙◌}
-use borrow.Author.Tests.{not-true, not-false}
 use Rattle.geom.specs.Memory.{rows_of}
 use Rattle.geom.specs.Kinds.{kind_of}
 use Rattle.judge.specs.Judged.{bench_in}

@@ -1,5 +1,4 @@
 -- `judge::words::all_below` meets its contract: a bound that fits a word is compared, and no word reaches another. Assumes nothing.
-use borrow.Author.Rules.{rules}
 use Rattle.judge.proofs.Every.{words_narrow}
 use Rattle.judge.proofs.words.all_below.Goals as goal
 

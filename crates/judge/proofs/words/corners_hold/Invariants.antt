@@ -1,13 +1,9 @@
 -- `judge::words::corners_hold` meets its contract: every word is below the count, or the corners of the elements passed are. Assumes nothing.
-use native.Mathlib.Omega.{arith}
-use borrow.Author.Rules.{rules}
-use mathlib.Core.Path.{◌≡◌, sym, ◌∙◌}
+use mathlib.Core.Path.{◌≡◌}
 use mathlib.Core.Bool.{true}
-use borrow.Author.Tests.{not-true, not-false}
 use Prim.Native.Nat.{◌-◌, ◌≤◌}
 use Rattle.geom.specs.Memory.{ElementRow, first_of, element_row}
 use Rattle.geom.specs.Refusals.{every, good_number}
-use Rattle.judge.proofs.Every.{every_start, every_on, every_off, every_done, elements_words, words_corners, row_end, row_column, row_corners}
 use Rattle.judge.proofs.words.corners_hold.Given as goal
 
 abbrev pub invariant-loop-i : goal.invariant-loop-i

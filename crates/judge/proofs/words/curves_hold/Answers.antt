@@ -1,11 +1,6 @@
 -- `judge::words::curves_hold` meets its contract: the curves passed have vertices. Assumes nothing.
 use native.Mathlib.Omega.{arith}
-use borrow.Author.Rules.{rules}
-use mathlib.Core.Path.{◌≡◌, sym}
-use mathlib.Core.Bool.{true}
-use Prim.Native.Nat.{◌-◌, ◌≤◌}
-use Rattle.geom.specs.Memory.{first_of, curve_row}
-use Rattle.geom.specs.Refusals.{every, good_curve}
+use mathlib.Core.Path.{sym}
 use Rattle.judge.proofs.Every.{every_start, every_on, every_off, every_done}
 use Rattle.judge.proofs.Parts.{curve_off, curve_on}
 use Rattle.judge.proofs.words.curves_hold.Goals as goal

@@ -1,13 +1,9 @@
 -- `judge::words::curves_hold` meets its contract: the curves passed have vertices. Assumes nothing.
-use native.Mathlib.Omega.{arith}
-use borrow.Author.Rules.{rules}
-use mathlib.Core.Path.{◌≡◌, sym}
+use mathlib.Core.Path.{◌≡◌}
 use mathlib.Core.Bool.{true}
 use Prim.Native.Nat.{◌-◌, ◌≤◌}
 use Rattle.geom.specs.Memory.{first_of, curve_row}
 use Rattle.geom.specs.Refusals.{every, good_curve}
-use Rattle.judge.proofs.Every.{every_start, every_on, every_off, every_done}
-use Rattle.judge.proofs.Parts.{curve_off, curve_on}
 use Rattle.judge.proofs.words.curves_hold.Given as goal
 
 abbrev pub invariant-loop-i : goal.invariant-loop-i

@@ -1,7 +1,5 @@
 -- `judge::words::lengths_hold` meets its contract: what is left of the total and the lengths passed make the total. Assumes nothing.
-use borrow.Author.Rules.{rules}
-use Prim.Native.Nat.{◌-◌}
-use Rattle.judge.proofs.Parts.{Counting, counting_start, counting_on, counting_off, counting_done}
+use Rattle.judge.proofs.Parts.{counting_start, counting_on, counting_off, counting_done}
 use Rattle.judge.proofs.words.lengths_hold.Goals as goal
 
 pub loop-i-init : goal.loop-i-init

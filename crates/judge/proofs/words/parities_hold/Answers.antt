@@ -1,6 +1,5 @@
 -- `judge::words::parities_hold` meets its contract. Assumes nothing.
 use native.Mathlib.Omega.{arith}
-use borrow.Author.Rules.{rules}
 use mathlib.Core.Path.{◌∙◌}
 use Rattle.judge.proofs.Every.{elements_column, parities_column}
 use Rattle.judge.proofs.words.parities_hold.Goals as goal

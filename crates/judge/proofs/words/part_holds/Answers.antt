@@ -1,6 +1,5 @@
 -- `judge::words::part_holds` meets its contract. Assumes nothing.
 use native.Mathlib.Omega.{arith}
-use borrow.Author.Rules.{rules}
 use mathlib.Core.Path.{sym, ◌∙◌}
 use Rattle.judge.proofs.Parts.{steps_parities, no_steps}
 use Rattle.judge.proofs.words.part_holds.Goals as goal

@@ -1,9 +1,6 @@
 -- `judge::words::parts_hold` meets its contract: the curves passed have their parities, and the next one starts behind them. Assumes nothing.
 use native.Mathlib.Omega.{arith}
-use borrow.Author.Rules.{rules}
-use Prim.Native.Nat.{◌-◌}
-use borrow.Author.Tests.{not-true, not-false}
-use Rattle.judge.proofs.Parts.{Walking, walking_start, walking_within, walking_on, walking_off, walking_done}
+use Rattle.judge.proofs.Parts.{walking_start, walking_within, walking_on, walking_off, walking_done}
 use Rattle.judge.proofs.words.parts_hold.Goals as goal
 
 pub loop-i-init : goal.loop-i-init

@@ -1,14 +1,10 @@
 -- `judge::words::positions_hold` meets its contract: it is known whether the coordinates passed are within. Assumes nothing.
-use native.Mathlib.Omega.{arith}
-use Rattle.geom.specs.Floats.{binary32}
-use borrow.Author.Rules.{rules}
-use mathlib.Core.Path.{◌≡◌, sym, ◌∙◌, ap}
+use mathlib.Core.Path.{◌≡◌}
 use Prim.Native.Nat.{ℕ, ◌-◌, ◌≤◌}
 use lib.ListN.{get_or}
 use Rattle.numbers.specs.Binary32 as Binary32
 use Rattle.geom.specs.Memory.{first_of}
 use Rattle.geom.specs.Refusals.{every, good_coordinate}
-use Rattle.judge.proofs.Every.{every_start, every_with, every_done, positions_words_lem}
 use Rattle.judge.proofs.words.positions_hold.Given as goal
 
 abbrev pub invariant-loop-i : goal.invariant-loop-i

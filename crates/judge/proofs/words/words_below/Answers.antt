@@ -1,9 +1,6 @@
 -- `judge::words::words_below` meets its contract: it is known whether the words passed are below the bound. Assumes nothing.
 use native.Mathlib.Omega.{arith}
-use borrow.Author.Rules.{rules}
-use mathlib.Core.Path.{◌≡◌, refl, sym}
-use Prim.Native.Nat.{◌-◌, ◌≤◌}
-use Rattle.judge.specs.Words.{words_below}
+use mathlib.Core.Path.{refl, sym}
 use Rattle.judge.proofs.Every.{every_start, every_with, every_done, number_below}
 use Rattle.judge.proofs.words.words_below.Goals as goal
 

@@ -1,8 +1,7 @@
 -- `listing::digits::decimal` meets its contract: the digits behind the rest stand in the buffer, and the first comes last. Assumes nothing.
 use lib.ListN.{length-set}
-use Rattle.listing.proofs.Numerals.{Backing, backing_start, backing_long, backing_place, backing_on, backing_last, backing_done}
+use Rattle.listing.proofs.Numerals.{backing_start, backing_long, backing_place, backing_on, backing_last, backing_done}
 use native.Mathlib.Omega.{arith}
-use borrow.Author.Rules.{rules}
 use Rattle.listing.proofs.digits.decimal.Goals as goal
 
 pub overflow_add-end : goal.overflow_add-end

@@ -1,6 +1,5 @@
 -- `listing::digits::glyph` meets its contract: a digit from 0 to 9, or from A to F. Assumes nothing.
 use Rattle.listing.proofs.Numerals.{digit_low, digit_high}
-use borrow.Author.Rules.{rules}
 use Rattle.listing.proofs.digits.glyph.Goals as goal
 
 pub returns-then-value-lt10 : goal.returns-then-value-lt10

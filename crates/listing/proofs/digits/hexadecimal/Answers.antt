@@ -1,11 +1,10 @@
 -- `listing::digits::hexadecimal` meets its contract: eight digits, the highest first. Assumes nothing.
 use mathlib.Core.Path.{refl}
-use Prim.Native.Nat.{◌+◌, ◌-◌}
-use Rattle.division.proofs.Rows.{Copying, copying_start, copying_length, copying_on}
-use Rattle.listing.proofs.Numerals.{nibble, nibbles}
+use Prim.Native.Nat.{◌+◌}
+use Rattle.division.proofs.Rows.{copying_start, copying_length, copying_on}
+use Rattle.listing.proofs.Numerals.{nibbles}
 use Rattle.listing.proofs.Texts.{put_copied}
 use native.Mathlib.Omega.{arith}
-use borrow.Author.Rules.{rules}
 use Rattle.listing.proofs.digits.hexadecimal.Goals as goal
 
 pub loop-i-init : goal.loop-i-init

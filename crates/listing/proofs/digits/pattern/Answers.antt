@@ -6,7 +6,6 @@ use lib.Ieee.Bits.{to_bits-lt}
 use Rattle.numbers.proofs.Patterns.{equal_to_itself}
 use Rattle.listing.proofs.Numerals.{nan_pattern}
 use native.Mathlib.Omega.{arith}
-use borrow.Author.Rules.{rules}
 use Rattle.listing.proofs.digits.pattern.Goals as goal
 
 pub returns-then-c : goal.returns-then-c

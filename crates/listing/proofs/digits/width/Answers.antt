@@ -1,6 +1,5 @@
 -- `listing::digits::width` meets its contract: a digit is counted for each division by ten. Assumes nothing.
-use Rattle.listing.proofs.Numerals.{Counting, counting_start, counting_on, counting_done}
-use borrow.Author.Rules.{rules}
+use Rattle.listing.proofs.Numerals.{counting_start, counting_on, counting_done}
 use Rattle.listing.proofs.digits.width.Goals as goal
 
 pub loop-rest-init : goal.loop-rest-init

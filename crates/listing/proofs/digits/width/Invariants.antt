@@ -1,6 +1,5 @@
 -- `listing::digits::width` meets its contract: a digit is counted for each division by ten. Assumes nothing.
-use Rattle.listing.proofs.Numerals.{Counting, counting_start, counting_on, counting_done}
-use borrow.Author.Rules.{rules}
+use Rattle.listing.proofs.Numerals.{Counting}
 use Rattle.listing.proofs.digits.width.Given as goal
 
 abbrev pub invariant-loop-rest : goal.invariant-loop-rest

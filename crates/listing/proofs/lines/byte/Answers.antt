@@ -1,6 +1,5 @@
 -- `listing::lines::byte` meets its contract. Assumes nothing.
 use Rattle.listing.proofs.Texts.{put_byte}
-use borrow.Author.Rules.{rules}
 use Rattle.listing.proofs.lines.byte.Goals as goal
 
 pub returns : goal.returns

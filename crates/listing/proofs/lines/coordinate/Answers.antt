@@ -3,7 +3,6 @@ use mathlib.Core.Path.{refl}
 use Rattle.listing.proofs.Parts.{bits_parts, length_hexadecimal}
 use Rattle.listing.proofs.Texts.{going_start, going_room, going_on, going_long, going_done}
 use native.Mathlib.Omega.{arith}
-use borrow.Author.Rules.{rules}
 use Rattle.listing.proofs.lines.coordinate.Goals as goal
 
 pub byte-next-requires : goal.byte-next-requires

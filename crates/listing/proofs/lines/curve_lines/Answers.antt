@@ -1,12 +1,7 @@
 -- `listing::lines::curve_lines` meets its contract: the lines of the curves passed stand in the buffer, and the next one's vertices begin where theirs end. Assumes nothing.
-use Prim.Native.Nat.{◌-◌}
-use mathlib.Core.Path.{◌≡◌}
-use Rattle.division.proofs.Winding.{start_of}
-use Rattle.listing.specs.Text.{curve_text}
 use Rattle.listing.proofs.Parts.{starts, curve_next, curve_end, curve_vertices_lem, curve_parities, curve_line_lem}
-use Rattle.listing.proofs.Texts.{Lining, lining_start, lining_room, lining_on, lining_long, lining_done}
+use Rattle.listing.proofs.Texts.{lining_start, lining_room, lining_on, lining_long, lining_done}
 use native.Mathlib.Omega.{arith}
-use borrow.Author.Rules.{rules}
 use Rattle.listing.proofs.lines.curve_lines.Goals as goal
 
 pub loop-i-init : goal.loop-i-init

@@ -3,10 +3,7 @@ use Prim.Native.Nat.{◌-◌}
 use mathlib.Core.Path.{◌≡◌}
 use Rattle.division.proofs.Winding.{start_of}
 use Rattle.listing.specs.Text.{curve_text}
-use Rattle.listing.proofs.Parts.{starts, curve_next, curve_end, curve_vertices_lem, curve_parities, curve_line_lem}
-use Rattle.listing.proofs.Texts.{Lining, lining_start, lining_room, lining_on, lining_long, lining_done}
-use native.Mathlib.Omega.{arith}
-use borrow.Author.Rules.{rules}
+use Rattle.listing.proofs.Texts.{Lining}
 use Rattle.listing.proofs.lines.curve_lines.Given as goal
 
 abbrev pub invariant-loop-i : goal.invariant-loop-i

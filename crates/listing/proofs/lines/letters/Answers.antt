@@ -1,12 +1,10 @@
 -- `listing::lines::letters` meets its contract: the letters passed stand in the buffer. Assumes nothing.
 use mathlib.Core.Path.{sym, ap}
-use Prim.Native.Nat.{ℕ, ◌-◌}
+use Prim.Native.Nat.{ℕ}
 use Rattle.geom.specs.Listing.{letter}
 use Rattle.geom.specs.Memory.{parity_of}
-use Rattle.listing.specs.Text.{letter_text}
-use Rattle.listing.proofs.Texts.{Lining, lining_start, lining_room, lining_on, lining_long, lining_done}
+use Rattle.listing.proofs.Texts.{lining_start, lining_room, lining_on, lining_long, lining_done}
 use native.Mathlib.Omega.{arith}
-use borrow.Author.Rules.{rules}
 use Rattle.listing.proofs.lines.letters.Goals as goal
 
 pub loop-i-init : goal.loop-i-init

@@ -1,12 +1,7 @@
 -- `listing::lines::letters` meets its contract: the letters passed stand in the buffer. Assumes nothing.
-use mathlib.Core.Path.{sym, ap}
-use Prim.Native.Nat.{ℕ, ◌-◌}
-use Rattle.geom.specs.Listing.{letter}
-use Rattle.geom.specs.Memory.{parity_of}
+use Prim.Native.Nat.{◌-◌}
 use Rattle.listing.specs.Text.{letter_text}
-use Rattle.listing.proofs.Texts.{Lining, lining_start, lining_room, lining_on, lining_long, lining_done}
-use native.Mathlib.Omega.{arith}
-use borrow.Author.Rules.{rules}
+use Rattle.listing.proofs.Texts.{Lining}
 use Rattle.listing.proofs.lines.letters.Given as goal
 
 abbrev pub invariant-loop-i : goal.invariant-loop-i

@@ -1,11 +1,9 @@
 -- `listing::lines::numbers` meets its contract: the numbers passed stand in the buffer. Assumes nothing.
 use mathlib.Core.Path.{sym, ap}
-use Prim.Native.Nat.{ℕ, ◌-◌}
+use Prim.Native.Nat.{ℕ}
 use Rattle.geom.specs.Listing.{decimal, spaced}
-use Rattle.listing.specs.Text.{number_text}
-use Rattle.listing.proofs.Texts.{Lining, lining_start, lining_room, lining_on, lining_long, lining_done}
+use Rattle.listing.proofs.Texts.{lining_start, lining_room, lining_on, lining_long, lining_done}
 use native.Mathlib.Omega.{arith}
-use borrow.Author.Rules.{rules}
 use Rattle.listing.proofs.lines.numbers.Goals as goal
 
 pub loop-i-init : goal.loop-i-init

@@ -1,11 +1,8 @@
 -- `listing::lines::point_lines` meets its contract: the lines of the points passed stand in the buffer. Assumes nothing.
-use Prim.Native.Nat.{◌-◌}
 use Rattle.judge.proofs.Every.{row_column}
-use Rattle.listing.specs.Text.{point_text}
 use Rattle.listing.proofs.Parts.{point_line_lem}
-use Rattle.listing.proofs.Texts.{Lining, lining_start, lining_room, lining_on, lining_long, lining_done}
+use Rattle.listing.proofs.Texts.{lining_start, lining_room, lining_on, lining_long, lining_done}
 use native.Mathlib.Omega.{arith}
-use borrow.Author.Rules.{rules}
 use Rattle.listing.proofs.lines.point_lines.Goals as goal
 
 pub loop-i-init : goal.loop-i-init

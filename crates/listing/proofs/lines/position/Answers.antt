@@ -1,11 +1,8 @@
 -- `listing::lines::position` meets its contract: the coordinates passed stand in the buffer. Assumes nothing.
 use mathlib.Core.Path.{sym, ap}
-use Prim.Native.Nat.{◌-◌}
 use lib.Ieee.{Float}
 use Rattle.geom.specs.Listing.{bits}
-use Rattle.listing.specs.Text.{coordinate_text}
-use Rattle.listing.proofs.Texts.{Lining, lining_start, lining_room, lining_on, lining_long, lining_done}
-use borrow.Author.Rules.{rules}
+use Rattle.listing.proofs.Texts.{lining_start, lining_room, lining_on, lining_long, lining_done}
 use Rattle.listing.proofs.lines.position.Goals as goal
 
 pub loop-i-init : goal.loop-i-init

@@ -1,11 +1,7 @@
 -- `listing::lines::say` meets its contract: a copy, byte by byte. Assumes nothing.
-use mathlib.Core.Path.{refl}
 use Prim.Native.Nat.{ℕ, ◌-◌}
 use lib.ListN.{length, get_or}
-use Rattle.division.proofs.Rows.{Copying, copying_start, copying_length, copying_on}
-use Rattle.listing.proofs.Texts.{put_copied, places}
-use native.Mathlib.Omega.{arith}
-use borrow.Author.Rules.{rules}
+use Rattle.division.proofs.Rows.{Copying}
 use Rattle.listing.proofs.lines.say.Given as goal
 
 abbrev pub invariant-loop-i : goal.invariant-loop-i

@@ -1,7 +1,6 @@
 -- `listing::lines::vertex` meets its contract: the texts of a vertex one after the other. Assumes nothing.
 use Rattle.listing.proofs.Parts.{vertex_parts}
 use Rattle.listing.proofs.Texts.{going_start, going_room, going_on, going_long, going_done}
-use borrow.Author.Rules.{rules}
 use Rattle.listing.proofs.lines.vertex.Goals as goal
 
 pub byte-next-requires : goal.byte-next-requires

@@ -1,10 +1,7 @@
 -- `listing::lines::vertex_lines` meets its contract: the lines of the vertices passed stand in the buffer. Assumes nothing.
 use mathlib.Core.Path.{refl}
-use Prim.Native.Nat.{◌-◌}
-use Rattle.listing.specs.Text.{vertex_text}
-use Rattle.listing.proofs.Texts.{Lining, lining_start, lining_room, lining_on, lining_long, lining_done}
+use Rattle.listing.proofs.Texts.{lining_start, lining_room, lining_on, lining_long, lining_done}
 use native.Mathlib.Omega.{arith}
-use borrow.Author.Rules.{rules}
 use Rattle.listing.proofs.lines.vertex_lines.Goals as goal
 
 pub loop-i-init : goal.loop-i-init

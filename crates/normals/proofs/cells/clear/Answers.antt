@@ -1,9 +1,7 @@
 -- `normals::cells::clear` meets its contract: the words passed are +0. Assumes nothing.
-use borrow.Author.Rules.{rules}
 use native.Mathlib.Omega.{arith}
-use Prim.Native.Nat.{◌-◌}
 use lib.Ieee.{of_bits}
-use Rattle.normals.proofs.Adding.{Clearing, clearing_start, clearing_on, clearing_done}
+use Rattle.normals.proofs.Adding.{clearing_start, clearing_on, clearing_done}
 use Rattle.normals.proofs.cells.clear.Goals as goal
 
 pub loop-i-init : goal.loop-i-init

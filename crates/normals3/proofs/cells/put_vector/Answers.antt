@@ -1,5 +1,4 @@
 -- `normals3::cells::put_vector` meets its contract. Assumes nothing.
-use borrow.Author.Rules.{rules}
 use native.Mathlib.Omega.{arith}
 use Prim.Native.Nat.{◌*◌}
 use lib.ListN.{length-set}

@@ -1,5 +1,4 @@
 -- `normals3::cells::vector_at` meets its contract. Assumes nothing.
-use borrow.Author.Rules.{rules}
 use Rattle.normals3.specs.Cells.{vector_row}
 use Rattle.normals3.proofs.cells.vector_at.Goals as goal
 

@@ -1,5 +1,4 @@
 -- `normals3::triangles::add_triangle` meets its contract. Assumes nothing.
-use borrow.Author.Rules.{rules}
 use native.Mathlib.Omega.{arith}
 use Rattle.normals3.proofs.Faces.{three_below, triangle_off, triangle_on}
 use Rattle.normals3.proofs.triangles.add_triangle.Goals as goal

@@ -1,5 +1,4 @@
 -- `normals3::triangles::area_normal` meets its contract. Assumes nothing.
-use borrow.Author.Rules.{rules}
 use native.Mathlib.Omega.{arith}
 use Rattle.normals3.proofs.Faces.{area_is}
 use Rattle.normals3.proofs.triangles.area_normal.Goals as goal

@@ -1,10 +1,6 @@
 -- `normals3::triangles::gather` meets its contract: each vertex has what the elements passed give it. Assumes nothing.
-use borrow.Author.Rules.{rules}
 use native.Mathlib.Omega.{arith}
-use Prim.Native.Nat.{◌-◌}
-use Rattle.normals3.specs.Cells.{vector_row}
-use Rattle.normals.proofs.Adding.{elements_first, Gathering, gathering_start, gathering_on, gathering_done}
-use Rattle.normals3.proofs.Faces.{triangles}
+use Rattle.normals.proofs.Adding.{elements_first, gathering_start, gathering_on, gathering_done}
 use Rattle.normals3.proofs.triangles.gather.Goals as goal
 
 pub loop-i-init : goal.loop-i-init

@@ -1,9 +1,7 @@
 -- `normals3::triangles::gather` meets its contract: each vertex has what the elements passed give it. Assumes nothing.
-use borrow.Author.Rules.{rules}
-use native.Mathlib.Omega.{arith}
 use Prim.Native.Nat.{◌-◌}
 use Rattle.normals3.specs.Cells.{vector_row}
-use Rattle.normals.proofs.Adding.{elements_first, Gathering, gathering_start, gathering_on, gathering_done}
+use Rattle.normals.proofs.Adding.{Gathering}
 use Rattle.normals3.proofs.Faces.{triangles}
 use Rattle.normals3.proofs.triangles.gather.Given as goal
 

@@ -1,5 +1,4 @@
 -- `normals3::triangles::put_normal` meets its contract. Assumes nothing.
-use borrow.Author.Rules.{rules}
 use Prim.Native.Nat.{◌*◌}
 use lib.Ieee.{of_bits}
 use Rattle.numbers.specs.declared.normal.Normal3.TheVariants.{Direction, Flat}

@@ -1,10 +1,9 @@
 -- `normals3::triangles::settle` meets its contract: the sums passed are normalised, and the others still what they were. Assumes nothing.
-use borrow.Author.Rules.{rules}
 use Prim.Native.Nat.{◌-◌}
 use Rattle.numbers.specs.Normal.{normalised3, cells3}
 use Rattle.numbers.proofs.Normals.{wide3}
 use Rattle.normals3.proofs.Faces.{vectors}
-use Rattle.normals.proofs.Settling.{Settling, settling_start, settling_length, settling_room, settling_on, settling_done}
+use Rattle.normals.proofs.Settling.{Settling}
 use Rattle.normals3.proofs.triangles.settle.Given as goal
 
 abbrev pub invariant-loop-i : goal.invariant-loop-i

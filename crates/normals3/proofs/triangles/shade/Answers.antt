@@ -1,5 +1,4 @@
 -- `normals3::triangles::shade` meets its contract: cleared, gathered, normalised. Assumes nothing.
-use borrow.Author.Rules.{rules}
 use native.Mathlib.Omega.{arith}
 use Prim.Native.Nat.{ℕ}
 use Rattle.numbers.specs.Normal.{normalised3, cells3}

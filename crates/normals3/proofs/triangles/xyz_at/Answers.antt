@@ -1,5 +1,4 @@
 -- `normals3::triangles::xyz_at` meets its contract. Assumes nothing.
-use borrow.Author.Rules.{rules}
 use Rattle.geom.specs.Normals.{xyz}
 use Rattle.normals3.proofs.triangles.xyz_at.Goals as goal
 

@@ -1,5 +1,4 @@
 -- `normals4::tetrahedra::add_point` meets its contract. Assumes nothing.
-use borrow.Author.Rules.{rules}
 use mathlib.Core.Path.{◌∙◌, ap}
 use Prim.Native.Nat.{◌*◌}
 use lib.Seq.{sets}

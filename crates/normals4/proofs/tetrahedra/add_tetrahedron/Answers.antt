@@ -1,5 +1,4 @@
 -- `normals4::tetrahedra::add_tetrahedron` meets its contract. Assumes nothing.
-use borrow.Author.Rules.{rules}
 use native.Mathlib.Omega.{arith}
 use Rattle.normals4.proofs.Faces.{four_below, tetrahedron_on}
 use Rattle.normals4.proofs.tetrahedra.add_tetrahedron.Goals as goal

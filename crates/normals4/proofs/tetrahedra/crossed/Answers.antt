@@ -1,5 +1,4 @@
 -- `normals4::tetrahedra::crossed` meets its contract. Assumes nothing.
-use borrow.Author.Rules.{rules}
 use mathlib.Core.Path.{◌∙◌, ap₂}
 use Rattle.numbers.specs.Points4 as Points4
 use Rattle.normals4.proofs.tetrahedra.crossed.Goals as goal

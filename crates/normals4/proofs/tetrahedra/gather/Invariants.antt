@@ -1,9 +1,7 @@
 -- `normals4::tetrahedra::gather` meets its contract: each vertex has what the elements passed give it. Assumes nothing.
-use borrow.Author.Rules.{rules}
-use native.Mathlib.Omega.{arith}
 use Prim.Native.Nat.{◌-◌}
 use Rattle.vertices.specs.Cells.{point_row}
-use Rattle.normals.proofs.Adding.{elements_first, Gathering, gathering_start, gathering_on, gathering_done}
+use Rattle.normals.proofs.Adding.{Gathering}
 use Rattle.normals4.proofs.Faces.{tetrahedra}
 use Rattle.normals4.proofs.tetrahedra.gather.Given as goal
 

@@ -1,5 +1,4 @@
 -- `normals4::tetrahedra::minors` meets its contract. Assumes nothing.
-use borrow.Author.Rules.{rules}
 use Rattle.normals4.proofs.Faces.{minors_are}
 use Rattle.normals4.proofs.tetrahedra.minors.Goals as goal
 

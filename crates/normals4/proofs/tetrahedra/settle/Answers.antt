@@ -1,10 +1,8 @@
 -- `normals4::tetrahedra::settle` meets its contract: the sums passed are normalised, and the others still what they were. Assumes nothing.
-use borrow.Author.Rules.{rules}
-use Prim.Native.Nat.{◌-◌}
 use Rattle.numbers.specs.Normal.{normalised4, cells4}
 use Rattle.numbers.proofs.Normals.{wide4}
 use Rattle.normals4.proofs.Faces.{points}
-use Rattle.normals.proofs.Settling.{Settling, settling_start, settling_length, settling_room, settling_on, settling_done}
+use Rattle.normals.proofs.Settling.{settling_start, settling_length, settling_room, settling_on, settling_done}
 use Rattle.normals4.proofs.tetrahedra.settle.Goals as goal
 
 pub loop-i-init : goal.loop-i-init

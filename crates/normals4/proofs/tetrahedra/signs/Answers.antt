@@ -1,5 +1,4 @@
 -- `normals4::tetrahedra::signs` meets its contract. Assumes nothing.
-use borrow.Author.Rules.{rules}
 use lib.Ieee.{of_bits}
 use Rattle.normals4.proofs.Faces.{from_none}
 use Rattle.normals4.proofs.tetrahedra.signs.Goals as goal

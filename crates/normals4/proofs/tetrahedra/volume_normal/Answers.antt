@@ -1,5 +1,4 @@
 -- `normals4::tetrahedra::volume_normal` meets its contract. Assumes nothing.
-use borrow.Author.Rules.{rules}
 use native.Mathlib.Omega.{arith}
 use Rattle.normals4.proofs.Faces.{volume_is}
 use Rattle.normals4.proofs.tetrahedra.volume_normal.Goals as goal

@@ -1,7 +1,6 @@
 -- `numbers::normal::flat4` meets its contract, from that of the dot product. Assumes nothing.
 use lib.Ieee.{of_bits}
 use Rattle.numbers.specs.Normal.{flat4}
-use Rattle.std.proofs.Common.{rules}
 use Rattle.numbers.proofs.normal.flat4.Goals as goal
 
 pub returns : goal.returns

@@ -1,5 +1,5 @@
 -- `numbers::normal::normalise3` meets its contract: what it gives where the test for Flat holds, and where it fails. Assumes nothing.
-use Rattle.std.proofs.Common.{sym, ap, ◌∙◌, rules}
+use Rattle.std.proofs.Common.{sym, ap, ◌∙◌}
 use Rattle.numbers.specs.declared.vec3.Vec3.{Vec3}
 use Rattle.numbers.specs.declared.normal.Normal3.TheVariants.{Direction}
 use Rattle.numbers.proofs.Normals.{flat_is_Flat3, else_a_direction3}

@@ -1,7 +1,6 @@
 -- `numbers::normal::unit3` meets its contract, from those of the dot product, the root and the scaling. Assumes nothing.
 use lib.Ieee.{of_bits}
 use Rattle.numbers.specs.Normal.{unit3}
-use Rattle.std.proofs.Common.{rules}
 use Rattle.numbers.proofs.normal.unit3.Goals as goal
 
 pub returns : goal.returns

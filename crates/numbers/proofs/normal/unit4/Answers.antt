@@ -1,7 +1,6 @@
 -- `numbers::normal::unit4` meets its contract, from those of the dot product, the root and the scaling. Assumes nothing.
 use lib.Ieee.{of_bits}
 use Rattle.numbers.specs.Normal.{unit4}
-use Rattle.std.proofs.Common.{rules}
 use Rattle.numbers.proofs.normal.unit4.Goals as goal
 
 pub returns : goal.returns

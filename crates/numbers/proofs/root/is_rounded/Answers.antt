@@ -1,6 +1,6 @@
 -- `numbers::root::is_rounded` meets its contract: the two squares tell (`WholeRoot.antt`), and where it says no there is nothing to show. Assumes nothing.
 use mathlib.Core.Bool.{false≢true}
-use Rattle.std.proofs.Common.{arith, rules}
+use Rattle.std.proofs.Common.{arith}
 use Rattle.numbers.proofs.WholeRoot.{under_small, squares_decide}
 use Rattle.numbers.proofs.root.is_rounded.Goals as goal
 

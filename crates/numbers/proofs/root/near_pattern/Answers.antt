@@ -1,6 +1,6 @@
 -- `numbers::root::near_pattern` is safe: the pattern that it begins with is no NaN's, and neither is the one that it reads (`Patterns.antt`). Of the number that it
 -- guesses nothing is said. Assumes nothing.
-use Rattle.std.proofs.Common.{arith, rules}
+use Rattle.std.proofs.Common.{arith}
 use lib.Ieee.{binary64}
 use lib.Ieee.Fits.{mul-fits}
 use Rattle.numbers.proofs.Patterns.{equal_to_itself, below_infinity, one_more_fits}

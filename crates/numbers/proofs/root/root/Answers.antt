@@ -1,7 +1,7 @@
 -- `numbers::root::root` meets its contract, case by case of the pattern (`RootOf.antt`): x is what its pattern stands for, and what is made of the pattern
 -- of the root is the root. Assumes nothing.
-use Rattle.std.proofs.Common.{◌≡◌, ◌^◌, ◌<◌, T, sym, ap, ◌∙◌, subst, arith, rules}
-use lib.Ieee.{Float, binary32, fits, of_bits, to_bits}
+use Rattle.std.proofs.Common.{◌≡◌, T, sym, ap, ◌∙◌, subst, arith}
+use lib.Ieee.{Float, binary32, of_bits}
 use lib.Ieee.Bits.{of_bits-fits, of_bits-to_bits, to_bits-lt}
 use lib.Ieee.Compare.{differs_from_itself}
 use Rattle.numbers.specs.Root.{root}

@@ -1,5 +1,5 @@
 -- `numbers::root::root_bits` meets its contract: the digits and the weight that it hands on are those of the pattern (`RootOf.antt`). Assumes nothing.
-use Rattle.std.proofs.Common.{sym, ap, ◌∙◌, rules}
+use Rattle.std.proofs.Common.{sym, ap, ◌∙◌}
 use lib.Ieee.{binary32, to_bits}
 use Rattle.numbers.proofs.RootOf.{root_of_subnormal, root_of_normal}
 use Rattle.numbers.proofs.root.root_bits.Goals as goal

@@ -1,6 +1,6 @@
 -- `numbers::root::root_pattern` meets its contract: it works out `root_at`, whose pattern is known (`RootOf.antt`), and no step leaves its type (`Radicand.antt`).
 -- Assumes nothing.
-use Rattle.std.proofs.Common.{arith, rules}
+use Rattle.std.proofs.Common.{arith}
 use Rattle.numbers.proofs.Radicand.{zeros_to, shift_small, shifted, radicand_below}
 use Rattle.numbers.proofs.RootOf.{pattern_is}
 use Rattle.numbers.proofs.root.root_pattern.Goals as goal

@@ -1,5 +1,5 @@
 -- `numbers::root::rounded_root` meets its contract, whatever the guess is: `is_rounded` and `whole_root` say what they return. Assumes nothing.
-use Rattle.std.proofs.Common.{sym, rules}
+use Rattle.std.proofs.Common.{sym}
 use Rattle.numbers.proofs.RoundedRoot.{rounded_to}
 use Rattle.numbers.proofs.root.rounded_root.Goals as goal
 

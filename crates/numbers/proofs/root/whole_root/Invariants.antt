@@ -1,6 +1,6 @@
 -- `numbers::root::whole_root` meets its contract. The invariant: the root lies between low and high. The measure is what is between them. Assumes nothing.
-use Rattle.std.proofs.Common.{◌-◌, arith}
-use Rattle.numbers.proofs.WholeRoot.{Between, between_start, middle_fits, upper_half, lower_half, between_done}
+use Rattle.std.proofs.Common.{◌-◌}
+use Rattle.numbers.proofs.WholeRoot.{Between}
 use Rattle.numbers.proofs.root.whole_root.Given as goal
 
 abbrev pub invariant-loop-high : goal.invariant-loop-high

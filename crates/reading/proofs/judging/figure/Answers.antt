@@ -1,6 +1,5 @@
 -- `reading::judging::figure` meets its contract. Assumes nothing.
 use Rattle.reading.proofs.Picks.{picks}
-use borrow.Author.Rules.{rules}
 use Rattle.reading.proofs.judging.figure.Goals as goal
 
 pub returns : goal.returns

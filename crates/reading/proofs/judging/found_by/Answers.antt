@@ -1,6 +1,5 @@
 -- `reading::judging::found_by` meets its contract. Assumes nothing.
 use mathlib.Core.Path.{refl}
-use borrow.Author.Rules.{rules}
 use Rattle.reading.proofs.judging.found_by.Goals as goal
 
 pub returns-in-Simplices : goal.returns-in-Simplices

@@ -1,7 +1,6 @@
 -- `reading::judging::header` meets its contract. Assumes nothing.
 use mathlib.Core.Path.{refl}
 use Rattle.reading.proofs.Header.{other_version}
-use borrow.Author.Rules.{rules}
 use Rattle.reading.proofs.judging.header.Goals as goal
 
 pub returns-then-version-ne1 : goal.returns-then-version-ne1

@@ -1,7 +1,6 @@
 -- `reading::judging::kind_byte` meets its contract. Assumes nothing.
 use mathlib.Core.Path.{refl}
 use Rattle.reading.proofs.Header.{kind_names}
-use borrow.Author.Rules.{rules}
 use Rattle.reading.proofs.judging.kind_byte.Goals as goal
 
 pub returns-else-kind-eq1 : goal.returns-else-kind-eq1

@@ -1,6 +1,5 @@
 -- `reading::judging::lists_of` meets its contract. Assumes nothing.
 use mathlib.Core.Path.{refl}
-use borrow.Author.Rules.{rules}
 use Rattle.reading.proofs.judging.lists_of.Goals as goal
 
 pub returns-in-Finished : goal.returns-in-Finished

@@ -1,7 +1,6 @@
 -- `reading::judging::refusal` meets its contract. Assumes nothing.
 use mathlib.Core.Path.{refl}
 use Rattle.reading.specs.Picked.{refusal_of}
-use borrow.Author.Rules.{rules}
 use Rattle.reading.proofs.judging.refusal.Goals as goal
 
 pub returns : goal.returns

@@ -1,7 +1,6 @@
 -- `reading::judging::sizes_in` meets its contract. Assumes nothing.
 use mathlib.Core.Path.{refl}
 use Rattle.reading.specs.Picked.{sizes_in}
-use borrow.Author.Rules.{rules}
 use Rattle.reading.proofs.judging.sizes_in.Goals as goal
 
 pub returns : goal.returns

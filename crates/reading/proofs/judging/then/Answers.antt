@@ -1,6 +1,5 @@
 -- `reading::judging::then` meets its contract. Assumes nothing.
 use mathlib.Core.Path.{refl}
-use borrow.Author.Rules.{rules}
 use Rattle.reading.proofs.judging.then.Goals as goal
 
 pub returns-in-Refused : goal.returns-in-Refused

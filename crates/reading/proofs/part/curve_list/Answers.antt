@@ -2,7 +2,6 @@
 use mathlib.Core.Path.{refl}
 use native.Mathlib.Omega.{arith}
 use Rattle.reading.proofs.Parts.{count_stops, curves_stop}
-use borrow.Author.Rules.{rules}
 use Rattle.reading.proofs.part.curve_list.Goals as goal
 
 pub returns-in_default : goal.returns-in_default

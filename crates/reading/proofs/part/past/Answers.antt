@@ -1,7 +1,6 @@
 -- `reading::part::past` meets its contract. Assumes nothing.
 use mathlib.Core.Path.{refl}
 use native.Mathlib.Omega.{arith}
-use borrow.Author.Rules.{rules}
 use Rattle.reading.proofs.part.past.Goals as goal
 
 pub returns-in_default : goal.returns-in_default

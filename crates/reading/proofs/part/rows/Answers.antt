@@ -2,7 +2,6 @@
 use native.Mathlib.Omega.{arith}
 use Rattle.reading.proofs.Parts.{took, took_field, list_fits}
 use Prim.Native.Nat.{◌^◌}
-use borrow.Author.Rules.{rules}
 use Rattle.reading.proofs.part.rows.Goals as goal
 
 pub past-requires : goal.past-requires

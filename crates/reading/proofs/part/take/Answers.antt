@@ -4,7 +4,6 @@ use Rattle.reading.proofs.Parts.{took, took_field, byte_fits, list_fits, end_fit
 use Prim.Native.Nat.{◌^◌}
 use Rattle.geom.specs.Kinds.{kind_of}
 use Rattle.judge.proofs.Verdicts.{area_few, volume_few}
-use borrow.Author.Rules.{rules}
 use Rattle.reading.proofs.part.take.Goals as goal
 
 pub past-requires : goal.past-requires

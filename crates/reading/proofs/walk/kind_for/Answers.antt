@@ -1,6 +1,5 @@
 -- `reading::walk::kind_for` meets its contract. Assumes nothing.
 use Rattle.reading.proofs.Parts.{kind_none}
-use borrow.Author.Rules.{rules}
 use Rattle.reading.proofs.walk.kind_for.Goals as goal
 
 pub returns-else-kind-eq1 : goal.returns-else-kind-eq1

@@ -1,6 +1,5 @@
 -- `reading::walk::lent_for` meets its contract. Assumes nothing.
 use mathlib.Core.Path.{refl}
-use borrow.Author.Rules.{rules}
 use Rattle.reading.proofs.walk.lent_for.Goals as goal
 
 pub returns : goal.returns

@@ -1,5 +1,5 @@
 -- `roots::judge::digits` meets its contract. Assumes nothing.
-use Rattle.std.proofs.Common.{sym, arith, rules}
+use Rattle.std.proofs.Common.{sym, arith}
 use Rattle.roots.proofs.Exactly.{digits_subnormal, digits_normal}
 use Rattle.roots.proofs.judge.digits.Goals as goal
 

@@ -1,5 +1,5 @@
 -- `roots::judge::judge` meets its contract, by how far the argument's digits are to be shifted. Assumes nothing.
-use Rattle.std.proofs.Common.{sym, arith, rules}
+use Rattle.std.proofs.Common.{sym, arith}
 use Rattle.roots.specs.Exact.{upper}
 use Rattle.roots.proofs.Exactly.{lies_below, lies_above, lies_beside, leading, square_fits}
 use Rattle.roots.proofs.judge.judge.Goals as goal

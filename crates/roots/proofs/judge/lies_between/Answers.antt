@@ -1,5 +1,5 @@
 -- `roots::judge::lies_between` meets its contract. Assumes nothing.
-use Rattle.std.proofs.Common.{sym, rules}
+use Rattle.std.proofs.Common.{sym}
 use Rattle.roots.proofs.Exactly.{not_above, above}
 use Rattle.roots.proofs.judge.lies_between.Goals as goal
 

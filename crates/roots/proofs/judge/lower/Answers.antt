@@ -1,5 +1,5 @@
 -- `roots::judge::lower` meets its contract. Assumes nothing.
-use Rattle.std.proofs.Common.{sym, arith, rules}
+use Rattle.std.proofs.Common.{sym, arith}
 use Rattle.roots.proofs.Exactly.{lower_at, lower_past}
 use Rattle.roots.proofs.judge.lower.Goals as goal
 

@@ -1,6 +1,5 @@
 -- `roots::judge::root_at` meets its contract: it takes the pattern of no NaN, neither to make a number of nor from one. Assumes nothing.
 use Rattle.roots.proofs.Patterns.{no_nan_pattern, no_nan}
-use Rattle.std.proofs.Common.{rules}
 use Rattle.roots.proofs.judge.root_at.Goals as goal
 
 pub float_from_bits-pattern : goal.float_from_bits-pattern

@@ -1,5 +1,5 @@
 -- `roots::replay::counted` meets its contract. Assumes nothing.
-use Rattle.std.proofs.Common.{refl, arith, rules}
+use Rattle.std.proofs.Common.{refl, arith}
 use Rattle.roots.proofs.replay.counted.Goals as goal
 
 pub returns-then-agrees : goal.returns-then-agrees

@@ -1,6 +1,5 @@
 -- `roots::replay::read` meets its contract, by the kind of line. Assumes nothing.
 use Rattle.roots.proofs.Tallies.{remark_read, pair_read, broken_read}
-use Rattle.std.proofs.Common.{rules}
 use Rattle.roots.proofs.replay.read.Goals as goal
 
 pub returns-in-Remark : goal.returns-in-Remark

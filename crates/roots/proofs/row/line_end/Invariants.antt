@@ -1,5 +1,5 @@
 -- `roots::row::line_end` meets its contract. The invariant: the place lies from the start to the end of the text. The measure is what is left of it. Assumes nothing.
-use Rattle.std.proofs.Common.{◌-◌, ◌≤◌, length, arith}
+use Rattle.std.proofs.Common.{◌-◌, ◌≤◌, length}
 use Rattle.roots.proofs.row.line_end.Given as goal
 
 abbrev pub invariant-loop-at : goal.invariant-loop-at

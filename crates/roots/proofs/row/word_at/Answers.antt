@@ -1,5 +1,5 @@
 -- `roots::row::word_at` meets its contract. The invariant: the number read so far has four bits for each digit. The measure is the number of digits left. Assumes nothing.
-use Rattle.std.proofs.Common.{◌-◌, ◌*◌, ◌^◌, ◌<◌, ◌≤◌, arith, rules}
+use Rattle.std.proofs.Common.{arith}
 use Rattle.roots.proofs.Patterns.{room_for_one, one_more}
 use Rattle.roots.proofs.row.word_at.Goals as goal
 

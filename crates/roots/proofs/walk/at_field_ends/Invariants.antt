@@ -1,5 +1,5 @@
 -- `roots::walk::at_field_ends` meets its contract. The invariant: each turn has visited two patterns. The measure is the number of turns left. Assumes nothing.
-use Rattle.std.proofs.Common.{◌-◌, ◌*◌, ◌≤◌, rules}
+use Rattle.std.proofs.Common.{◌-◌, ◌*◌, ◌≤◌}
 use Rattle.roots.specs.Counts.{Visited}
 use Rattle.roots.proofs.walk.at_field_ends.Given as goal
 

@@ -1,5 +1,5 @@
 -- `roots::walk::spread` meets its contract. The invariant: each turn has visited one pattern. The measure is the number of turns left. Assumes nothing.
-use Rattle.std.proofs.Common.{◌-◌, ◌≤◌, rules}
+use Rattle.std.proofs.Common.{◌-◌, ◌≤◌}
 use Rattle.roots.specs.Counts.{Visited}
 use Rattle.roots.proofs.walk.spread.Given as goal
 

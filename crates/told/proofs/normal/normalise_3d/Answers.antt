@@ -5,7 +5,6 @@ use Rattle.numbers.specs.Normal.{cells3}
 use Rattle.numbers.specs.declared.normal.Normal3.TheVariants.{Direction, Flat}
 use Rattle.told.specs.Cells.{point3, directed3}
 use Rattle.told.proofs.Directions.{left_by3}
-use borrow.Author.Rules.{rules}
 use Rattle.told.proofs.normal.normalise_3d.Goals as goal
 
 pub returns-in_default : goal.returns-in_default

@@ -5,7 +5,6 @@ use Rattle.numbers.specs.Normal.{cells4}
 use Rattle.numbers.specs.declared.normal.Normal4.TheVariants.{Direction, Flat}
 use Rattle.told.specs.Cells.{point4, directed4}
 use Rattle.told.proofs.Directions.{left_by4}
-use borrow.Author.Rules.{rules}
 use Rattle.told.proofs.normal.normalise_4d.Goals as goal
 
 pub returns-in_default : goal.returns-in_default

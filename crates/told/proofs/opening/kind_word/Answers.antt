@@ -3,7 +3,6 @@ use Rattle.geom.specs.declared.answer.Opened.{Opened}
 use Rattle.geom.specs.Answers.{judgement_of}
 use Rattle.told.specs.Told.{kind_word}
 use mathlib.Core.Path.{sym, ap}
-use borrow.Author.Rules.{rules}
 use Rattle.told.proofs.opening.kind_word.Goals as goal
 
 pub returns-in-Cubes : goal.returns-in-Cubes

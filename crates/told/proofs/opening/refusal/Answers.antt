@@ -3,7 +3,6 @@ use Rattle.geom.specs.declared.answer.Opened.{Opened}
 use Rattle.geom.specs.Answers.{judgement_of}
 use Rattle.told.specs.Told.{refusal_of}
 use mathlib.Core.Path.{sym, ap}
-use borrow.Author.Rules.{rules}
 use Rattle.told.proofs.opening.refusal.Goals as goal
 
 pub returns-in-Cubes : goal.returns-in-Cubes

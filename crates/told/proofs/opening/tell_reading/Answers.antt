@@ -1,6 +1,5 @@
 -- `told::opening::tell_reading` meets its contract: the words say the answer (`opening_by`). Assumes nothing.
 use Rattle.told.proofs.Saying.{sizes_words, opening_by}
-use borrow.Author.Rules.{rules}
 use Rattle.told.proofs.opening.tell_reading.Goals as goal
 
 pub returns : goal.returns

@@ -1,7 +1,6 @@
 -- `told::words::number` meets its contract: the number says the whole verdict (`number_by`). Assumes nothing.
 use Rattle.geom.specs.Answers.{verdict_of}
 use Rattle.told.proofs.Saying.{number_by}
-use borrow.Author.Rules.{rules}
 use Rattle.told.proofs.words.number.Goals as goal
 
 pub returns-in-Finished : goal.returns-in-Finished

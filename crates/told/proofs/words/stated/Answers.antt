@@ -1,7 +1,6 @@
 -- `told::words::stated` meets its contract. Assumes nothing.
 use mathlib.Core.Path.{refl}
 use Rattle.told.specs.Told.{sizes_from}
-use borrow.Author.Rules.{rules}
 use Rattle.told.proofs.words.stated.Goals as goal
 
 pub returns : goal.returns

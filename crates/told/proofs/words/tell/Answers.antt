@@ -1,6 +1,5 @@
 -- `told::words::tell` meets its contract: the words say the answer (`told_by_lem`). Assumes nothing.
 use Rattle.told.proofs.Saying.{sizes_words, told_by_lem}
-use borrow.Author.Rules.{rules}
 use Rattle.told.proofs.words.tell.Goals as goal
 
 pub returns : goal.returns

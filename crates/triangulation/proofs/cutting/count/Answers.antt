@@ -1,10 +1,8 @@
 -- `triangulation::cutting::count` meets its contract: an element a turn (`Counting`). Assumes nothing.
 use mathlib.Core.Path.{refl, sym, ◌∙◌, ap}
-use Prim.Native.Nat.{suc, ◌+◌, ◌*◌, ◌-◌, ◌≤◌}
 use lib.ListN.{length}
-use Rattle.triangulation.proofs.Turns.{Counting, counting_start, counting_on, counting_done}
-use Rattle.triangulation.proofs.Pieces.{element_lies, element_makes, all_turns, read_table, makes_is, one_few, all_few}
-use borrow.Author.Rules.{rules}
+use Rattle.triangulation.proofs.Turns.{counting_start, counting_on, counting_done}
+use Rattle.triangulation.proofs.Pieces.{element_lies, all_turns, read_table, makes_is, one_few, all_few}
 use native.Mathlib.Omega.{arith}
 use Rattle.triangulation.proofs.cutting.count.Goals as goal
 

@@ -1,8 +1,6 @@
 -- `triangulation::cutting::cut` meets its contract: a row of the table a turn (`Writing`). Assumes nothing.
-use Prim.Native.Nat.{◌-◌}
-use Rattle.triangulation.proofs.Turns.{Writing, writing_start, writing_length, writing_room, writing_on, writing_done}
+use Rattle.triangulation.proofs.Turns.{writing_start, writing_length, writing_room, writing_on, writing_done}
 use Rattle.triangulation.proofs.Pieces.{row_lies, row_makes, cut_turns}
-use borrow.Author.Rules.{rules}
 use native.Mathlib.Omega.{arith}
 use Rattle.triangulation.proofs.cutting.cut.Goals as goal
 

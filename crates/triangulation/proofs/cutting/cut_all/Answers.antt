@@ -1,9 +1,7 @@
 -- `triangulation::cutting::cut_all` meets its contract: an element a turn (`Writing`). Assumes nothing.
-use Prim.Native.Nat.{suc, ◌+◌, ◌*◌, ◌-◌, ◌≤◌}
 use lib.ListN.{length}
-use Rattle.triangulation.proofs.Turns.{Writing, writing_length, writing_room, writing_on}
+use Rattle.triangulation.proofs.Turns.{writing_length, writing_room, writing_on}
 use Rattle.triangulation.proofs.Pieces.{element_lies, element_makes, all_start, all_done, read_table, makes_is}
-use borrow.Author.Rules.{rules}
 use native.Mathlib.Omega.{arith}
 use Rattle.triangulation.proofs.cutting.cut_all.Goals as goal
 

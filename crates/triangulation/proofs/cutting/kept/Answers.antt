@@ -1,12 +1,10 @@
 -- `triangulation::cutting::kept` meets its contract: a row of the table a turn (`Counting`). Assumes nothing.
 use mathlib.Core.Path.{sym, ◌∙◌, ap}
-use Prim.Native.Nat.{◌+◌, ◌*◌, ◌-◌}
+use Prim.Native.Nat.{◌+◌, ◌*◌}
 use lib.ListN.{length}
-use Rattle.geom.specs.declared.parity.Parity.{Parity}
 use Rattle.geom.specs.declared.parity.Parity.TheVariants.{Even}
-use Rattle.triangulation.proofs.Turns.{Counting, counting_start, counting_on, counting_done}
-use Rattle.triangulation.proofs.Pieces.{row_lies, from_few, row_makes, cut_turns, counted_few}
-use borrow.Author.Rules.{rules}
+use Rattle.triangulation.proofs.Turns.{counting_start, counting_on, counting_done}
+use Rattle.triangulation.proofs.Pieces.{row_lies, from_few, cut_turns, counted_few}
 use native.Mathlib.Omega.{arith}
 use Rattle.triangulation.proofs.cutting.kept.Goals as goal
 

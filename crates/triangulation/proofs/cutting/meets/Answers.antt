@@ -1,12 +1,9 @@
 -- `triangulation::cutting::meets` meets its contract: a pair of neighbours a turn (`Meeting`). Assumes nothing.
 use mathlib.Core.Path.{◌∙◌}
-use Prim.Native.Nat.{◌-◌}
-use lib.ListN.{length, take, drop}
-use Rattle.geom.specs.Elements.{pick}
+use lib.ListN.{length}
 use Rattle.division.proofs.Tables.{below_at}
 use Rattle.division.proofs.Flats.{corner_at}
-use Rattle.triangulation.proofs.Meeting.{corner_first, Meeting, meeting_start, meeting_found, meeting_on, meeting_done}
-use borrow.Author.Rules.{rules}
+use Rattle.triangulation.proofs.Meeting.{corner_first, meeting_start, meeting_found, meeting_on, meeting_done}
 use native.Mathlib.Omega.{arith}
 use Rattle.triangulation.proofs.cutting.meets.Goals as goal
 

@@ -2,7 +2,6 @@
 use mathlib.Core.Path.{sym, ◌∙◌, ap}
 use lib.ListN.{length}
 use Rattle.triangulation.proofs.Pieces.{from_none, from_one}
-use borrow.Author.Rules.{rules}
 use Rattle.triangulation.proofs.cutting.one.Goals as goal
 
 pub returns-then-meets : goal.returns-then-meets

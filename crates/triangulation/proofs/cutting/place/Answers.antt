@@ -3,7 +3,6 @@ use mathlib.Core.Path.{refl, sym, ◌∙◌, ap}
 use lib.ListN.{length}
 use Rattle.geom.specs.Memory.{parity_word}
 use Rattle.triangulation.proofs.Pieces.{place_none, place_room, place_one}
-use borrow.Author.Rules.{rules}
 use native.Mathlib.Omega.{arith}
 use Rattle.triangulation.proofs.cutting.place.Goals as goal
 

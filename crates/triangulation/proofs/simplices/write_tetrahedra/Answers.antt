@@ -4,7 +4,6 @@ use Rattle.geom.specs.Memory.{first_of, element_row}
 use Rattle.geom.specs.Triangulation.{triangulate_cube}
 use Rattle.division.specs.Shapes.{below, row_of}
 use Rattle.triangulation.specs.Cutting.{neighbours, cut_by, cut_all}
-use borrow.Author.Rules.{rules}
 use native.Mathlib.Omega.{arith}
 use Rattle.triangulation.proofs.simplices.write_tetrahedra.Goals as goal
 

@@ -1,5 +1,4 @@
 -- `vertices::cells::midpoint_vertex` meets its contract. Assumes nothing.
-use borrow.Author.Rules.{rules}
 use Rattle.geom.specs.Vertices.{midpoint_in}
 use Rattle.vertices.proofs.cells.midpoint_vertex.Goals as goal
 

@@ -1,6 +1,5 @@
 -- `vertices::cells::point_at` meets its contract. Assumes nothing.
 use Rattle.geom.specs.Memory.{four_row}
-use borrow.Author.Rules.{rules}
 use Rattle.vertices.proofs.cells.point_at.Goals as goal
 
 pub returns : goal.returns

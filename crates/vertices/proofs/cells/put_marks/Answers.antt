@@ -1,6 +1,5 @@
 -- `vertices::cells::put_marks` meets its contract. Assumes nothing.
 use native.Mathlib.Omega.{arith}
-use borrow.Author.Rules.{rules}
 use Prim.Native.Nat.{◌*◌}
 use lib.ListN.{length-set}
 use Rattle.vertices.proofs.Written.{three_stores}

@@ -1,6 +1,5 @@
 -- `vertices::cells::put_point` meets its contract. Assumes nothing.
 use native.Mathlib.Omega.{arith}
-use borrow.Author.Rules.{rules}
 use Prim.Native.Nat.{◌*◌}
 use lib.ListN.{length-set}
 use Rattle.vertices.proofs.Written.{four_stores}

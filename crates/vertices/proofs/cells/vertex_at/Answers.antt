@@ -1,5 +1,4 @@
 -- `vertices::cells::vertex_at` meets its contract. Assumes nothing.
-use borrow.Author.Rules.{rules}
 use Rattle.geom.specs.Memory.{four_row, vertex_row_in}
 use Rattle.vertices.proofs.cells.vertex_at.Goals as goal
 

@@ -1,9 +1,7 @@
 -- `vertices::gather::clear` meets its contract: the cells passed are clear. Assumes nothing.
 use native.Mathlib.Omega.{arith}
-use borrow.Author.Rules.{rules}
-use Prim.Native.Nat.{◌-◌}
 use Rattle.geom.specs.Floats.{binary32}
-use Rattle.vertices.proofs.Gathering.{Clearing, clearing_start, clearing_on}
+use Rattle.vertices.proofs.Gathering.{clearing_start, clearing_on}
 use Rattle.vertices.proofs.gather.clear.Goals as goal
 
 pub loop-i-init : goal.loop-i-init

@@ -1,10 +1,7 @@
 -- `vertices::gather::gather` meets its contract: each vertex has what the elements passed give it. Assumes nothing.
 use native.Mathlib.Omega.{arith}
-use borrow.Author.Rules.{rules}
-use Prim.Native.Nat.{◌-◌}
-use Rattle.vertices.specs.Results.{result_of}
 use Rattle.geom.specs.Floats.{binary32}
-use Rattle.vertices.proofs.Gathering.{elements_corners, Collecting, collecting_start, collecting_lent, collecting_light, collecting_on, collecting_done, collecting_bound}
+use Rattle.vertices.proofs.Gathering.{elements_corners, collecting_start, collecting_lent, collecting_light, collecting_on, collecting_done, collecting_bound}
 use Rattle.vertices.proofs.gather.gather.Goals as goal
 
 pub loop-i-init : goal.loop-i-init

@@ -1,5 +1,4 @@
 -- `vertices::gather::put_gathered` meets its contract. Assumes nothing.
-use borrow.Author.Rules.{rules}
 use Rattle.geom.specs.Floats.{binary32}
 use Rattle.vertices.proofs.Gathering.{row_put}
 use Rattle.vertices.proofs.gather.put_gathered.Goals as goal

@@ -1,6 +1,5 @@
 -- `vertices::gather::put_tally` meets its contract. Assumes nothing.
 use native.Mathlib.Omega.{arith}
-use borrow.Author.Rules.{rules}
 use Prim.Native.Nat.{◌*◌}
 use lib.ListN.{length-set}
 use Rattle.vertices.proofs.Gathering.{two_stores}

@@ -1,9 +1,7 @@
 -- `vertices::gather::to_corners` meets its contract: each vertex has what the corners passed give it. Assumes nothing.
 use native.Mathlib.Omega.{arith}
-use borrow.Author.Rules.{rules}
-use Prim.Native.Nat.{◌-◌}
 use Rattle.geom.specs.Floats.{binary32}
-use Rattle.vertices.proofs.Gathering.{Spreading, spreading_start, spreading_lent, spreading_light, spreading_on, spreading_done}
+use Rattle.vertices.proofs.Gathering.{spreading_start, spreading_lent, spreading_light, spreading_on, spreading_done}
 use Rattle.vertices.proofs.gather.to_corners.Goals as goal
 
 pub loop-k-init : goal.loop-k-init

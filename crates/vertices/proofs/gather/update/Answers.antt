@@ -1,6 +1,5 @@
 -- `vertices::gather::update` meets its contract. Assumes nothing.
 use native.Mathlib.Omega.{arith}
-use borrow.Author.Rules.{rules}
 use mathlib.Core.Path.{refl, sym, ◌∙◌}
 use Rattle.vertices.specs.Cells.{gathered_row_in}
 use Rattle.geom.specs.Floats.{binary32}

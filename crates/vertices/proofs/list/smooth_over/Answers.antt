@@ -1,6 +1,5 @@
 -- `vertices::list::smooth_over` meets its contract: gathered from the list, and settled where it is the last. Assumes nothing.
 use native.Mathlib.Omega.{arith}
-use borrow.Author.Rules.{rules}
 use Rattle.vertices.proofs.Smoothed.{lent_kept, unmoved, moved_at_last}
 use Rattle.vertices.proofs.list.smooth_over.Goals as goal
 

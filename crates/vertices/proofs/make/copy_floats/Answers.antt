@@ -1,8 +1,6 @@
 -- `vertices::make::copy_floats` meets its contract: the floats passed are copied. Assumes nothing.
 use native.Mathlib.Omega.{arith}
-use borrow.Author.Rules.{rules}
-use Prim.Native.Nat.{◌-◌}
-use Rattle.vertices.proofs.Written.{Copying, copying_start, copying_length, copying_on, copying_done}
+use Rattle.vertices.proofs.Written.{copying_start, copying_length, copying_on, copying_done}
 use Rattle.vertices.proofs.make.copy_floats.Goals as goal
 
 pub loop-i-init : goal.loop-i-init

@@ -1,5 +1,4 @@
 -- `vertices::make::copy_vertices` meets its contract: all words of the vertices stand on the other bench. Assumes nothing.
-use borrow.Author.Rules.{rules}
 use Rattle.geom.specs.Floats.{binary32}
 use Rattle.vertices.proofs.Making.{laid_copied}
 use Rattle.vertices.proofs.make.copy_vertices.Goals as goal

@@ -1,5 +1,4 @@
 -- `vertices::make::lay_out` meets its contract: the old vertices, and behind them the new ones. Assumes nothing.
-use borrow.Author.Rules.{rules}
 use Rattle.geom.specs.Floats.{binary32}
 use Rattle.vertices.proofs.Making.{laid_out, laid_stand, laid_fewer}
 use Rattle.vertices.proofs.make.lay_out.Goals as goal

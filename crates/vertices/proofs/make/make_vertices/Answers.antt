@@ -1,12 +1,8 @@
 -- `vertices::make::make_vertices` meets its contract: the vertices of the entries passed stand behind the old ones. Assumes nothing.
 use native.Mathlib.Omega.{arith}
-use borrow.Author.Rules.{rules}
 use mathlib.Core.Path.{refl}
-use Prim.Native.Nat.{◌-◌, ◌≤◌}
-use Rattle.geom.specs.Memory.{first_of, vertex_row}
-use Rattle.vertices.specs.Cells.{Laid}
 use Rattle.geom.specs.Floats.{binary32}
-use Rattle.vertices.proofs.Making.{laid_start, laid_points, laid_words, laid_row, laid_more, new_vertex, new_vertices, laid_all}
+use Rattle.vertices.proofs.Making.{laid_start, laid_points, laid_words, laid_row, laid_more, new_vertices, laid_all}
 use Rattle.vertices.proofs.make.make_vertices.Goals as goal
 
 pub loop-e-init : goal.loop-e-init

@@ -1,5 +1,4 @@
 -- `vertices::make::pair_vertex` meets its contract. Assumes nothing.
-use borrow.Author.Rules.{rules}
 use Rattle.geom.specs.Floats.{binary32}
 use Rattle.vertices.proofs.Making.{first_row, second_row, pair_made}
 use Rattle.vertices.proofs.make.pair_vertex.Goals as goal

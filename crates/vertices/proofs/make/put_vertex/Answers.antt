@@ -1,5 +1,4 @@
 -- `vertices::make::put_vertex` meets its contract. Assumes nothing.
-use borrow.Author.Rules.{rules}
 use Rattle.geom.specs.Floats.{binary32}
 use Rattle.vertices.proofs.Making.{laid_one}
 use Rattle.vertices.proofs.make.put_vertex.Goals as goal

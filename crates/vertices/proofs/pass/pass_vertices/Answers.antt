@@ -1,7 +1,6 @@
 -- `vertices::pass::pass_vertices` meets its contract: laid out, then smoothed, or left so where there is nothing to smooth over. Assumes nothing.
 use mathlib.Core.Path.{sym, ◌∙◌}
 use native.Mathlib.Omega.{arith}
-use borrow.Author.Rules.{rules}
 use Rattle.geom.specs.Kinds.{kind_of}
 use Rattle.geom.specs.Memory.{area_corners, volume_corners, vertex_row}
 use Rattle.vertices.specs.Cells.{lists_of}

@@ -1,5 +1,4 @@
 -- `vertices::pass::smooth` meets its contract: each kind has its rule. Assumes nothing.
-use borrow.Author.Rules.{rules}
 use Rattle.vertices.proofs.pass.smooth.Goals as goal
 
 pub smooth-requires : goal.smooth-requires

@@ -1,5 +1,4 @@
 -- `vertices::rules::column_rule` meets its contract, corner by corner. Assumes nothing.
-use borrow.Author.Rules.{rules}
 use Rattle.vertices.specs.Cells.{points}
 use Rattle.vertices.proofs.Columns.{columns_are}
 use Rattle.vertices.proofs.rules.column_rule.Goals as goal

@@ -1,6 +1,5 @@
 -- `vertices::rules::corner` meets its contract. Assumes nothing.
 use native.Mathlib.Omega.{arith}
-use borrow.Author.Rules.{rules}
 use Rattle.vertices.proofs.Columns.{corner_at}
 use Rattle.vertices.proofs.rules.corner.Goals as goal
 

@@ -1,5 +1,4 @@
 -- `vertices::rules::corner_or_zero` meets its contract. Assumes nothing.
-use borrow.Author.Rules.{rules}
 use Rattle.vertices.proofs.Columns.{corner_none}
 use Rattle.vertices.proofs.rules.corner_or_zero.Goals as goal
 

@@ -1,5 +1,4 @@
 -- `vertices::rules::cube_rule` meets its contract. Assumes nothing.
-use borrow.Author.Rules.{rules}
 use Rattle.vertices.proofs.Columns.{cube_is}
 use Rattle.vertices.proofs.rules.cube_rule.Goals as goal
 

@@ -1,6 +1,5 @@
 -- `vertices::rules::result` meets its contract, rule by rule. Assumes nothing.
 use native.Mathlib.Omega.{arith}
-use borrow.Author.Rules.{rules}
 use Rattle.geom.specs.Smoothing.{LINE_WEIGHTS, SQUARE_WEIGHTS}
 use Rattle.vertices.specs.declared.rules.Rule.TheVariants.{Segment, Triangle, Tetrahedron, Line, Square, Cube}
 use Rattle.vertices.specs.Cells.{points}

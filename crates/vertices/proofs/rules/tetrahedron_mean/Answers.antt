@@ -1,6 +1,5 @@
 -- `vertices::rules::tetrahedron_mean` meets its contract, corner by corner. Assumes nothing.
 use mathlib.Core.List.{[], ◌∷◌}
-use borrow.Author.Rules.{rules}
 use Rattle.geom.specs.Memory.{first_of}
 use Rattle.vertices.proofs.Columns.{mean_is}
 use Rattle.vertices.proofs.rules.tetrahedron_mean.Goals as goal

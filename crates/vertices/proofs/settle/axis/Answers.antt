@@ -1,5 +1,4 @@
 -- `vertices::settle::axis` meets its contract. Assumes nothing.
-use borrow.Author.Rules.{rules}
 use borrow.Author.Tests.{eq-eqb, ne_eqb}
 use Rattle.vertices.proofs.settle.axis.Goals as goal
 

@@ -1,5 +1,4 @@
 -- `vertices::settle::moved` meets its contract, axis by axis. Assumes nothing.
-use borrow.Author.Rules.{rules}
 use Rattle.geom.specs.Floats.{binary32}
 use Rattle.vertices.proofs.Settling.{moved_timed, moved_still}
 use Rattle.vertices.proofs.settle.moved.Goals as goal

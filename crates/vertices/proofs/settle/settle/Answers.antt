@@ -1,11 +1,9 @@
 -- `vertices::settle::settle` meets its contract: the vertices passed are settled, and the others still hold what they held. Assumes nothing.
 use native.Mathlib.Omega.{arith}
-use borrow.Author.Rules.{rules}
 use mathlib.Core.Path.{refl}
-use Prim.Native.Nat.{◌-◌}
 use Rattle.vertices.specs.Cells.{gathered_row_in}
 use Rattle.geom.specs.Floats.{binary32}
-use Rattle.vertices.proofs.Settling.{Settling, settling_start, settling_length, settling_on, settling_done}
+use Rattle.vertices.proofs.Settling.{settling_start, settling_length, settling_on, settling_done}
 use Rattle.vertices.proofs.settle.settle.Goals as goal
 
 pub loop-i-init : goal.loop-i-init

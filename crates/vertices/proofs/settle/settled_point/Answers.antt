@@ -1,5 +1,4 @@
 -- `vertices::settle::settled_point` meets its contract. Assumes nothing.
-use borrow.Author.Rules.{rules}
 use lib.Dec.{le→leb}
 use lib.Ieee.{in_float}
 use Rattle.geom.specs.Floats.{binary32}

@@ -1,6 +1,5 @@
 -- `vertices::simplices::smooth` meets its contract: cleared, gathered from tetrahedra, triangles and lines, and settled after the last list. Assumes nothing.
 use native.Mathlib.Omega.{arith}
-use borrow.Author.Rules.{rules}
 use mathlib.Core.Path.{refl, ◌∙◌}
 use Rattle.vertices.specs.Cells.{lists_of}
 use Rattle.geom.specs.Floats.{binary32}
