@@ -8,6 +8,9 @@ ghost use Rattle.page.specs.Page.{Into, Written, Answered};
 use listing::refusal;
 use loading::on_first;
 
+// A smooth_time byte is 0 or 1.
+const LAST_TIME: u8 = 1;
+
 // As many bytes as an input may have, and one more: an input that fills it is longer than it may be, whatever follows.
 pub fn buffer() -> [u8; 65537]
     ensures { 65537 ≡ length result }
@@ -33,7 +36,7 @@ fn sheet(input: &[u8], out: &mut [u8; 147456]) -> usize
         return refusal(3, 0, out);
     }
     let time = input[1];
-    if 1 < time {
+    if LAST_TIME < time {
         return refusal(5, 0, out);
     }
     on_first(input[0], time, &input[2..], out)

@@ -24,8 +24,9 @@ use std::rt::Files;
 use std::{fs, io};
 
 fn main(rt: HostRuntime) -> io::Result<()> {
-    replay_published(&rt)?;
-    walk_patterns(&rt)
+    let replayed = replay_published(&rt);
+    walk_patterns(&rt)?;
+    replayed
 }
 
 // Replays the published roots, and prints how many agree and the first row that does not.

@@ -19,17 +19,17 @@ pub returns-then-input-lt2 : goal.returns-then-input-lt2
 returns-then-input-lt2 c =
     printed_fits c.refusal-then-input-lt2.auto.out (printed_as (too_short c.args.input.now c.if-input-gt65536.false c.if-input-lt2.true) c.refusal-then-input-lt2.ensures)
 
-pub refusal-requires-then-time-gt1 : goal.refusal-requires-then-time-gt1
-refusal-requires-then-time-gt1 c = omega (arith, refusal_short 5 0 (omega arith) (omega arith))
+pub refusal-requires-then-time-gt-LAST_TIME : goal.refusal-requires-then-time-gt-LAST_TIME
+refusal-requires-then-time-gt-LAST_TIME c = omega (arith, refusal_short 5 0 (omega arith) (omega arith))
 
-pub returns-then-time-gt1 : goal.returns-then-time-gt1
-returns-then-time-gt1 c =
-    printed_fits c.refusal-then-time-gt1.auto.out (printed_as (bad_time c.args.input.now c.if-input-gt65536.false c.if-input-lt2.false c.if-time-gt1.true) c.refusal-then-time-gt1.ensures)
+pub returns-then-time-gt-LAST_TIME : goal.returns-then-time-gt-LAST_TIME
+returns-then-time-gt-LAST_TIME c =
+    printed_fits c.refusal-then-time-gt-LAST_TIME.auto.out (printed_as (bad_time c.args.input.now c.if-input-gt65536.false c.if-input-lt2.false c.if-time-gt-LAST_TIME.true) c.refusal-then-time-gt-LAST_TIME.ensures)
 
 pub on_first-requires : goal.on_first-requires
 on_first-requires c =
-    record { time = good_time c.args.input.now c.if-time-gt1.false; room = omega arith }
+    record { time = good_time c.args.input.now c.if-time-gt-LAST_TIME.false; room = omega arith }
 
 pub returns : goal.returns
 returns c =
-    printed_fits c.on_first.auto.out (printed_as (file_text c.args.input.now c.if-input-gt65536.false c.if-input-lt2.false c.if-time-gt1.false) c.on_first.ensures)
+    printed_fits c.on_first.auto.out (printed_as (file_text c.args.input.now c.if-input-gt65536.false c.if-input-lt2.false c.if-time-gt-LAST_TIME.false) c.on_first.ensures)
