@@ -12,48 +12,114 @@ use Rattle.judge.proofs.mesh.handed_in.Goals as goal
 
 pub returns-then-not-counts_hold : goal.returns-then-not-counts_hold
 unfolding verdict_of
-returns-then-not-counts_hold c = due_counts (kind_of c.args.kind) c.args.sizes (bench c.args.positions.now c.args.marks.now c.args.points.now c.args.lines.now c.args.areas.now c.args.volumes.now c.args.curves.now c.args.steps.now) c.args.nine c.args.five (sym (c.counts_hold.ensures floats (bench c.args.positions.now c.args.marks.now c.args.points.now c.args.lines.now c.args.areas.now c.args.volumes.now c.args.curves.now c.args.steps.now) refl refl) ∙ c.if-not-counts_hold.true)
+returns-then-not-counts_hold c =
+    let s = c.args in
+    let words = bench s.positions.now s.marks.now s.points.now s.lines.now s.areas.now s.volumes.now s.curves.now s.steps.now in
+    due_counts (kind_of s.kind) s.sizes words s.nine s.five (sym (c.counts_hold.ensures floats words refl refl) ∙ c.if-not-counts_hold.true)
 
 pub returns-then-not-nine : goal.returns-then-not-nine
 unfolding verdict_of
-returns-then-not-nine c = due_benches (kind_of c.args.kind) c.args.sizes (bench c.args.positions.now c.args.marks.now c.args.points.now c.args.lines.now c.args.areas.now c.args.volumes.now c.args.curves.now c.args.steps.now) c.args.nine c.args.five (sym (c.counts_hold.ensures floats (bench c.args.positions.now c.args.marks.now c.args.points.now c.args.lines.now c.args.areas.now c.args.volumes.now c.args.curves.now c.args.steps.now) refl refl) ∙ c.if-not-counts_hold.false) (c.if-not-nine.true)
+returns-then-not-nine c =
+    let s = c.args in
+    let words = bench s.positions.now s.marks.now s.points.now s.lines.now s.areas.now s.volumes.now s.curves.now s.steps.now in
+    let counted = sym (c.counts_hold.ensures floats words refl refl) ∙ c.if-not-counts_hold.false in
+    due_benches (kind_of s.kind) s.sizes words s.nine s.five counted c.if-not-nine.true
 
 pub marks_hold-requires : goal.marks_hold-requires
-marks_hold-requires c = counts_marked (kind_of c.args.kind) c.args.sizes (bench c.args.positions.now c.args.marks.now c.args.points.now c.args.lines.now c.args.areas.now c.args.volumes.now c.args.curves.now c.args.steps.now) (sym (c.counts_hold.ensures floats (bench c.args.positions.now c.args.marks.now c.args.points.now c.args.lines.now c.args.areas.now c.args.volumes.now c.args.curves.now c.args.steps.now) refl refl) ∙ c.if-not-counts_hold.false)
+marks_hold-requires c =
+    let s = c.args in
+    let words = bench s.positions.now s.marks.now s.points.now s.lines.now s.areas.now s.volumes.now s.curves.now s.steps.now in
+    let counted = sym (c.counts_hold.ensures floats words refl refl) ∙ c.if-not-counts_hold.false in
+    counts_marked (kind_of s.kind) s.sizes words counted
 
 pub returns-then-not-marks_hold : goal.returns-then-not-marks_hold
 unfolding verdict_of
-returns-then-not-marks_hold c = due_marks (kind_of c.args.kind) c.args.sizes (bench c.args.positions.now c.args.marks.now c.args.points.now c.args.lines.now c.args.areas.now c.args.volumes.now c.args.curves.now c.args.steps.now) c.args.nine c.args.five (sym (c.counts_hold.ensures floats (bench c.args.positions.now c.args.marks.now c.args.points.now c.args.lines.now c.args.areas.now c.args.volumes.now c.args.curves.now c.args.steps.now) refl refl) ∙ c.if-not-counts_hold.false) (c.if-not-nine.false) (sym (c.marks_hold.ensures floats c.args.positions.now c.args.points.now) ∙ c.if-not-marks_hold.true)
+returns-then-not-marks_hold c =
+    let s = c.args in
+    let words = bench s.positions.now s.marks.now s.points.now s.lines.now s.areas.now s.volumes.now s.curves.now s.steps.now in
+    let counted = sym (c.counts_hold.ensures floats words refl refl) ∙ c.if-not-counts_hold.false in
+    due_marks (kind_of s.kind) s.sizes words s.nine s.five counted c.if-not-nine.false (sym (c.marks_hold.ensures floats s.positions.now s.points.now) ∙ c.if-not-marks_hold.true)
 
 pub returns-then-not-five : goal.returns-then-not-five
 unfolding verdict_of
-returns-then-not-five c = due_time (kind_of c.args.kind) c.args.sizes (bench c.args.positions.now c.args.marks.now c.args.points.now c.args.lines.now c.args.areas.now c.args.volumes.now c.args.curves.now c.args.steps.now) c.args.nine c.args.five (sym (c.counts_hold.ensures floats (bench c.args.positions.now c.args.marks.now c.args.points.now c.args.lines.now c.args.areas.now c.args.volumes.now c.args.curves.now c.args.steps.now) refl refl) ∙ c.if-not-counts_hold.false) (c.if-not-nine.false) (sym (c.marks_hold.ensures floats c.args.positions.now c.args.points.now) ∙ c.if-not-marks_hold.false) (c.if-not-five.true)
+returns-then-not-five c =
+    let s = c.args in
+    let words = bench s.positions.now s.marks.now s.points.now s.lines.now s.areas.now s.volumes.now s.curves.now s.steps.now in
+    let counted = sym (c.counts_hold.ensures floats words refl refl) ∙ c.if-not-counts_hold.false in
+    let marked = sym (c.marks_hold.ensures floats s.positions.now s.points.now) ∙ c.if-not-marks_hold.false in
+    due_time (kind_of s.kind) s.sizes words s.nine s.five counted c.if-not-nine.false marked c.if-not-five.true
 
 pub positions_hold-requires : goal.positions_hold-requires
-positions_hold-requires c = counts_positions (kind_of c.args.kind) c.args.sizes (bench c.args.positions.now c.args.marks.now c.args.points.now c.args.lines.now c.args.areas.now c.args.volumes.now c.args.curves.now c.args.steps.now) (sym (c.counts_hold.ensures floats (bench c.args.positions.now c.args.marks.now c.args.points.now c.args.lines.now c.args.areas.now c.args.volumes.now c.args.curves.now c.args.steps.now) refl refl) ∙ c.if-not-counts_hold.false)
+positions_hold-requires c =
+    let s = c.args in
+    let words = bench s.positions.now s.marks.now s.points.now s.lines.now s.areas.now s.volumes.now s.curves.now s.steps.now in
+    let counted = sym (c.counts_hold.ensures floats words refl refl) ∙ c.if-not-counts_hold.false in
+    counts_positions (kind_of s.kind) s.sizes words counted
 
 pub returns-then-not-positions_hold : goal.returns-then-not-positions_hold
 unfolding positions_hold rows_of verdict_of
-returns-then-not-positions_hold c = due_positions (kind_of c.args.kind) c.args.sizes (bench c.args.positions.now c.args.marks.now c.args.points.now c.args.lines.now c.args.areas.now c.args.volumes.now c.args.curves.now c.args.steps.now) c.args.nine c.args.five (sym (c.counts_hold.ensures floats (bench c.args.positions.now c.args.marks.now c.args.points.now c.args.lines.now c.args.areas.now c.args.volumes.now c.args.curves.now c.args.steps.now) refl refl) ∙ c.if-not-counts_hold.false) (c.if-not-nine.false) (sym (c.marks_hold.ensures floats c.args.positions.now c.args.points.now) ∙ c.if-not-marks_hold.false) (c.if-not-five.false) (sym (c.positions_hold.ensures c.args.marks.now) ∙ c.if-not-positions_hold.true)
+returns-then-not-positions_hold c =
+    let s = c.args in
+    let words = bench s.positions.now s.marks.now s.points.now s.lines.now s.areas.now s.volumes.now s.curves.now s.steps.now in
+    let counted = sym (c.counts_hold.ensures floats words refl refl) ∙ c.if-not-counts_hold.false in
+    let marked = sym (c.marks_hold.ensures floats s.positions.now s.points.now) ∙ c.if-not-marks_hold.false in
+    due_positions (kind_of s.kind) s.sizes words s.nine s.five counted c.if-not-nine.false marked c.if-not-five.false (sym (c.positions_hold.ensures s.marks.now) ∙ c.if-not-positions_hold.true)
 
 pub numbers_hold-requires : goal.numbers_hold-requires
-numbers_hold-requires c = counts_numbered (kind_of c.args.kind) c.args.sizes (bench c.args.positions.now c.args.marks.now c.args.points.now c.args.lines.now c.args.areas.now c.args.volumes.now c.args.curves.now c.args.steps.now) (sym (c.counts_hold.ensures floats (bench c.args.positions.now c.args.marks.now c.args.points.now c.args.lines.now c.args.areas.now c.args.volumes.now c.args.curves.now c.args.steps.now) refl refl) ∙ c.if-not-counts_hold.false)
+numbers_hold-requires c =
+    let s = c.args in
+    let words = bench s.positions.now s.marks.now s.points.now s.lines.now s.areas.now s.volumes.now s.curves.now s.steps.now in
+    let counted = sym (c.counts_hold.ensures floats words refl refl) ∙ c.if-not-counts_hold.false in
+    counts_numbered (kind_of s.kind) s.sizes words counted
 
 pub returns-then-not-numbers_hold : goal.returns-then-not-numbers_hold
 unfolding positions_hold rows_of verdict_of
-returns-then-not-numbers_hold c = due_numbers (kind_of c.args.kind) c.args.sizes (bench c.args.positions.now c.args.marks.now c.args.points.now c.args.lines.now c.args.areas.now c.args.volumes.now c.args.curves.now c.args.steps.now) c.args.nine c.args.five (sym (c.counts_hold.ensures floats (bench c.args.positions.now c.args.marks.now c.args.points.now c.args.lines.now c.args.areas.now c.args.volumes.now c.args.curves.now c.args.steps.now) refl refl) ∙ c.if-not-counts_hold.false) (c.if-not-nine.false) (sym (c.marks_hold.ensures floats c.args.positions.now c.args.points.now) ∙ c.if-not-marks_hold.false) (c.if-not-five.false) (sym (c.positions_hold.ensures c.args.marks.now) ∙ c.if-not-positions_hold.false) (sym (c.numbers_hold.ensures floats c.args.positions.now c.args.marks.now c.args.curves.now) ∙ c.if-not-numbers_hold.true)
+returns-then-not-numbers_hold c =
+    let s = c.args in
+    let words = bench s.positions.now s.marks.now s.points.now s.lines.now s.areas.now s.volumes.now s.curves.now s.steps.now in
+    let counted = sym (c.counts_hold.ensures floats words refl refl) ∙ c.if-not-counts_hold.false in
+    let marked = sym (c.marks_hold.ensures floats s.positions.now s.points.now) ∙ c.if-not-marks_hold.false in
+    let placed = sym (c.positions_hold.ensures s.marks.now) ∙ c.if-not-positions_hold.false in
+    due_numbers (kind_of s.kind) s.sizes words s.nine s.five counted c.if-not-nine.false marked c.if-not-five.false placed (sym (c.numbers_hold.ensures floats s.positions.now s.marks.now s.curves.now) ∙ c.if-not-numbers_hold.true)
 
 pub curves_hold-requires : goal.curves_hold-requires
-curves_hold-requires c = counts_curves (kind_of c.args.kind) c.args.sizes (bench c.args.positions.now c.args.marks.now c.args.points.now c.args.lines.now c.args.areas.now c.args.volumes.now c.args.curves.now c.args.steps.now) (sym (c.counts_hold.ensures floats (bench c.args.positions.now c.args.marks.now c.args.points.now c.args.lines.now c.args.areas.now c.args.volumes.now c.args.curves.now c.args.steps.now) refl refl) ∙ c.if-not-counts_hold.false)
+curves_hold-requires c =
+    let s = c.args in
+    let words = bench s.positions.now s.marks.now s.points.now s.lines.now s.areas.now s.volumes.now s.curves.now s.steps.now in
+    let counted = sym (c.counts_hold.ensures floats words refl refl) ∙ c.if-not-counts_hold.false in
+    counts_curves (kind_of s.kind) s.sizes words counted
 
 pub returns-then-not-curves_hold : goal.returns-then-not-curves_hold
 unfolding positions_hold rows_of verdict_of
-returns-then-not-curves_hold c = due_curves (kind_of c.args.kind) c.args.sizes (bench c.args.positions.now c.args.marks.now c.args.points.now c.args.lines.now c.args.areas.now c.args.volumes.now c.args.curves.now c.args.steps.now) c.args.nine c.args.five (sym (c.counts_hold.ensures floats (bench c.args.positions.now c.args.marks.now c.args.points.now c.args.lines.now c.args.areas.now c.args.volumes.now c.args.curves.now c.args.steps.now) refl refl) ∙ c.if-not-counts_hold.false) (c.if-not-nine.false) (sym (c.marks_hold.ensures floats c.args.positions.now c.args.points.now) ∙ c.if-not-marks_hold.false) (c.if-not-five.false) (sym (c.positions_hold.ensures c.args.marks.now) ∙ c.if-not-positions_hold.false) (sym (c.numbers_hold.ensures floats c.args.positions.now c.args.marks.now c.args.curves.now) ∙ c.if-not-numbers_hold.false) (sym c.curves_hold.ensures ∙ c.if-not-curves_hold.true)
+returns-then-not-curves_hold c =
+    let s = c.args in
+    let words = bench s.positions.now s.marks.now s.points.now s.lines.now s.areas.now s.volumes.now s.curves.now s.steps.now in
+    let counted = sym (c.counts_hold.ensures floats words refl refl) ∙ c.if-not-counts_hold.false in
+    let marked = sym (c.marks_hold.ensures floats s.positions.now s.points.now) ∙ c.if-not-marks_hold.false in
+    let placed = sym (c.positions_hold.ensures s.marks.now) ∙ c.if-not-positions_hold.false in
+    let numbered = sym (c.numbers_hold.ensures floats s.positions.now s.marks.now s.curves.now) ∙ c.if-not-numbers_hold.false in
+    due_curves (kind_of s.kind) s.sizes words s.nine s.five counted c.if-not-nine.false marked c.if-not-five.false placed numbered (sym c.curves_hold.ensures ∙ c.if-not-curves_hold.true)
 
 pub returns-then-not-limits_hold : goal.returns-then-not-limits_hold
 unfolding positions_hold rows_of verdict_of
-returns-then-not-limits_hold c = due_limits (kind_of c.args.kind) c.args.sizes (bench c.args.positions.now c.args.marks.now c.args.points.now c.args.lines.now c.args.areas.now c.args.volumes.now c.args.curves.now c.args.steps.now) c.args.nine c.args.five (sym (c.counts_hold.ensures floats (bench c.args.positions.now c.args.marks.now c.args.points.now c.args.lines.now c.args.areas.now c.args.volumes.now c.args.curves.now c.args.steps.now) refl refl) ∙ c.if-not-counts_hold.false) (c.if-not-nine.false) (sym (c.marks_hold.ensures floats c.args.positions.now c.args.points.now) ∙ c.if-not-marks_hold.false) (c.if-not-five.false) (sym (c.positions_hold.ensures c.args.marks.now) ∙ c.if-not-positions_hold.false) (sym (c.numbers_hold.ensures floats c.args.positions.now c.args.marks.now c.args.curves.now) ∙ c.if-not-numbers_hold.false) (sym c.curves_hold.ensures ∙ c.if-not-curves_hold.false) (sym c.limits_hold.ensures ∙ c.if-not-limits_hold.true)
+returns-then-not-limits_hold c =
+    let s = c.args in
+    let words = bench s.positions.now s.marks.now s.points.now s.lines.now s.areas.now s.volumes.now s.curves.now s.steps.now in
+    let counted = sym (c.counts_hold.ensures floats words refl refl) ∙ c.if-not-counts_hold.false in
+    let marked = sym (c.marks_hold.ensures floats s.positions.now s.points.now) ∙ c.if-not-marks_hold.false in
+    let placed = sym (c.positions_hold.ensures s.marks.now) ∙ c.if-not-positions_hold.false in
+    let numbered = sym (c.numbers_hold.ensures floats s.positions.now s.marks.now s.curves.now) ∙ c.if-not-numbers_hold.false in
+    let curved = sym c.curves_hold.ensures ∙ c.if-not-curves_hold.false in
+    due_limits (kind_of s.kind) s.sizes words s.nine s.five counted c.if-not-nine.false marked c.if-not-five.false placed numbered curved (sym c.limits_hold.ensures ∙ c.if-not-limits_hold.true)
 
 pub returns : goal.returns
 unfolding positions_hold rows_of verdict_of
-returns c = due_none (kind_of c.args.kind) c.args.sizes (bench c.args.positions.now c.args.marks.now c.args.points.now c.args.lines.now c.args.areas.now c.args.volumes.now c.args.curves.now c.args.steps.now) c.args.nine c.args.five (sym (c.counts_hold.ensures floats (bench c.args.positions.now c.args.marks.now c.args.points.now c.args.lines.now c.args.areas.now c.args.volumes.now c.args.curves.now c.args.steps.now) refl refl) ∙ c.if-not-counts_hold.false) (c.if-not-nine.false) (sym (c.marks_hold.ensures floats c.args.positions.now c.args.points.now) ∙ c.if-not-marks_hold.false) (c.if-not-five.false) (sym (c.positions_hold.ensures c.args.marks.now) ∙ c.if-not-positions_hold.false) (sym (c.numbers_hold.ensures floats c.args.positions.now c.args.marks.now c.args.curves.now) ∙ c.if-not-numbers_hold.false) (sym c.curves_hold.ensures ∙ c.if-not-curves_hold.false) (sym c.limits_hold.ensures ∙ c.if-not-limits_hold.false)
+returns c =
+    let s = c.args in
+    let words = bench s.positions.now s.marks.now s.points.now s.lines.now s.areas.now s.volumes.now s.curves.now s.steps.now in
+    let counted = sym (c.counts_hold.ensures floats words refl refl) ∙ c.if-not-counts_hold.false in
+    let marked = sym (c.marks_hold.ensures floats s.positions.now s.points.now) ∙ c.if-not-marks_hold.false in
+    let placed = sym (c.positions_hold.ensures s.marks.now) ∙ c.if-not-positions_hold.false in
+    let numbered = sym (c.numbers_hold.ensures floats s.positions.now s.marks.now s.curves.now) ∙ c.if-not-numbers_hold.false in
+    let curved = sym c.curves_hold.ensures ∙ c.if-not-curves_hold.false in
+    due_none (kind_of s.kind) s.sizes words s.nine s.five counted c.if-not-nine.false marked c.if-not-five.false placed numbered curved (sym c.limits_hold.ensures ∙ c.if-not-limits_hold.false)
