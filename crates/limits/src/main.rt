@@ -1,8 +1,7 @@
 // Runs the entry of the refinement at document 01's limit, 1,048,576 entries in each list, and one entry above it.
 //
-// The list is that of the points, which takes the fewest words: one an entry, on each of the two benches. Both together are 8,388,616 bytes of
-// the program's stack, 8 more than the usual limit of 8 MiB. At depth 0 nothing reads the second bench's points, and the compiler leaves them out; where
-// it keeps them, `ulimit -s 32768` has to stand before the run.
+// The list is that of the points, which takes the fewest words: one an entry, on each of the two benches. Both together are 8,388,616 bytes, 8
+// more than the usual limit of a stack, so they are on the heap.
 //
 // `stdout` has what it must print, and every line of it follows from document 01:
 // - "1,048,576 entries in each list": so many are accepted, and P1 says of depth 0: no pass, the mesh unchanged;
@@ -10,16 +9,17 @@
 // - "9, 5, 6, 7, 8, then 10 for the lists handed in": a curve without vertices beside it is 8, which comes first.
 #![tactic(auto)]
 
-ghost use Rattle.std.specs.Prelude.{◌≡◌, length};
+ghost use Rattle.std.specs.Prelude.{◌≡◌, IfOk, vec_len};
 
 use geom::answer::{Ended, Refined, Sizes};
 use geom::kind::Kind;
+use std::alloc::{AllocError, Global};
 use std::io;
 use subdivision::subdivide;
 
 fn main(rt: HostRuntime) -> io::Result<()> {
-    let mut points = cells();
-    let mut other_points = cells();
+    let mut points = cells(rt.alloc())?;
+    let mut other_points = cells(rt.alloc())?;
     show(
         &rt,
         at_depth_0(&mut points, &mut other_points, 1_048_576, 0),
@@ -34,11 +34,11 @@ fn main(rt: HostRuntime) -> io::Result<()> {
     )
 }
 
-// One cell more than the limit.
-fn cells() -> [u32; 1_048_577]
-    ensures { 1_048_577 ≡ length result }
+// One cell more than the limit; nothing is left where memory runs out.
+fn cells(alloc: Global) -> Result<Vec<u32>, AllocError>
+    ensures { IfOk result (λ v. vec_len v ≡ 1_048_577) }
 {
-    [0; 1_048_577]
+    Ok(vec![in alloc; 0; 1_048_577]?)
 }
 
 // The answer for a vertex at the origin and so many points, all of them that vertex, with so many curves without vertices.
