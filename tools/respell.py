@@ -9,7 +9,6 @@ it from the kit's library, and not where Rattle itself makes it, as a goal's nam
 import collections
 import glob
 import re
-import subprocess
 import sys
 
 WORD = r"[^\s(){}.;,@\"«»\[\]`]+"
@@ -22,13 +21,14 @@ LIBRARY = re.compile(r"use\s+((?:Rattle\.(?:std|core)|lib|mathlib|borrow|logic|P
 GOAL = re.compile(r"\b(?:tie|goal)\.")
 # Where the rule below would give a name that says something else: a count beside the field of its name, a test beside its lemma.
 CHOSEN = {"curveVertices": "curve_vertices_of", "curve-vertices": "curve_vertices_lem", "aboveZero": "is_above_zero"}
-# As a record's field the first has the name of the field of `Sizes` that it stands beside.
+# As a record's field the first has the name of the field of `Sizes` that it stands beside; behind a module's name it is the count.
 FIELDS = {"curveVertices": "curve_vertices"}
 FIELD = re.compile(r"(?<![A-Z])(?<!Mesh)\.«?\0|(?:^\s+|[{;]\s*)(?:pub\s+)?\0\s+[=:](?:\s|$)")
 KEPT = {"use", "where", "let", "record", "data", "open", "unfolding", "in", "elim", "as"}
 
 
 def files():
+    """The definitions and the lemmas."""
     found = []
     for part in ("specs", "proofs"):
         found += glob.glob(f"crates/*/{part}/**/*.antt", recursive=True)

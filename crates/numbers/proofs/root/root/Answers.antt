@@ -1,13 +1,23 @@
 -- `numbers::root::root` meets its contract, case by case of the pattern (`RootOf.antt`): x is what its pattern stands for, and what is made of the pattern
 -- of the root is the root. Assumes nothing.
-use Rattle.std.proofs.Common.{◌≡◌, T, sym, ap, ◌∙◌, subst, arith}
-use lib.Ieee.{Float, binary32, of_bits}
+use Rattle.std.proofs.Common.{true, ◌≡◌, ◌^◌, ◌<◌, T, sym, ap, ◌∙◌, subst, arith}
+use lib.Ieee.{Float, binary32, fits, of_bits, to_bits}
 use lib.Ieee.Bits.{of_bits-fits, of_bits-to_bits, to_bits-lt}
 use lib.Ieee.Compare.{differs_from_itself}
 use Rattle.numbers.specs.Root.{root}
 use Rattle.numbers.proofs.Patterns.{equal_to_itself, widens, below_infinity}
 use Rattle.numbers.proofs.RootOf.{root_of_nan, root_of_own, root_of_negative, above_zero, root_fits}
 use Rattle.numbers.proofs.root.root.Goals as goal
+
+-- what owning an f32 tells: the format holds it
+held : (x : Float) → fits binary32 x ≡ true → T (fits binary32 x)
+held x e = subst T (sym e) tt
+
+own : (x : Float) → fits binary32 x ≡ true → of_bits binary32 (to_bits binary32 x) ≡ x
+own x e = of_bits-to_bits binary32 x (held x e)
+
+small : (x : Float) → fits binary32 x ≡ true → to_bits binary32 x < 2 ^ 32
+small x e = to_bits-lt binary32 x (held x e)
 
 pub returns-then-x : goal.returns-then-x
 returns-then-x c = sym (root_of_nan _ (differs_from_itself _ (subst T (sym c.if-x.true) tt)))
@@ -17,7 +27,7 @@ float_to_bits-bits c = equal_to_itself _ c.if-x.false
 
 pub float_to_float-x : goal.float_to_float-x
 float_to_float-x c =
-    widens _ ((subst T (sym c.well_formed.0.1) tt)) c.if-x.false
+    widens _ (held c.args.x c.well_formed.0.1) c.if-x.false
 
 pub root_bits-requires : goal.root_bits-requires
 root_bits-requires c = above_zero _ c.if-bits.true
@@ -29,12 +39,12 @@ pub returns-then-bits : goal.returns-then-bits
 returns-then-bits c =
     ap (of_bits binary32) c.root_bits.ensures.0
     ∙ of_bits-to_bits binary32 _ (root_fits _ (of_bits-fits binary32 _))
-    ∙ ap root ((of_bits-to_bits binary32 c.args.x ((subst T (sym c.well_formed.0.1) tt))))
+    ∙ ap root (own c.args.x c.well_formed.0.1)
 
 pub returns-then-bits-gt-SIGN : goal.returns-then-bits-gt-SIGN
 returns-then-bits-gt-SIGN c =
-    c.not_a_number.ensures ∙ sym (ap root (sym ((of_bits-to_bits binary32 c.args.x ((subst T (sym c.well_formed.0.1) tt))))) ∙ root_of_negative _ c.if-bits-gt-SIGN.true ((to_bits-lt binary32 c.args.x ((subst T (sym c.well_formed.0.1) tt)))))
+    c.not_a_number.ensures ∙ sym (ap root (sym (own c.args.x c.well_formed.0.1)) ∙ root_of_negative _ c.if-bits-gt-SIGN.true (small c.args.x c.well_formed.0.1))
 
 pub returns : goal.returns
 returns c =
-    sym (subst (λ (v : Float). root v ≡ v) ((of_bits-to_bits binary32 c.args.x ((subst T (sym c.well_formed.0.1) tt)))) (root_of_own _ c.if-bits.false (omega (arith, c.if-bits-gt-SIGN.false))))
+    sym (subst (λ (v : Float). root v ≡ v) (own c.args.x c.well_formed.0.1) (root_of_own _ c.if-bits.false (omega (arith, c.if-bits-gt-SIGN.false))))
