@@ -5,7 +5,7 @@
 
 The package oracle/reference makes random inputs and says what the Rust makes of them: what `sheet` prints (some of the inputs are damaged), the
 triangulation, and both normals; and what document 02, written again there, makes of them: U3 of tags and k, U5 of every parity, U8 of the ledger of cubes.
-Each answer becomes an equation about the definitions, `sheet INPUT ≡ ANSWER`, in a copy of the repository, and antt proves it by computing both sides. One
+Each answer becomes an equation about the definitions, `sheet INPUT ≡ ANSWER`, in a copy of `numbers` and `geom`, and antt proves it by computing both sides. One
 equation that does not hold is printed, and the exit status is 1.
 """
 import glob

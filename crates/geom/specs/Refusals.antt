@@ -94,7 +94,7 @@ handed_in nine five kind s b =
 pub record DeskIn (F : Form) : Type 0 where
   pub first : BenchIn F
   pub second : BenchIn F
-  -- BOOK-WORDS words a cell
+  -- BOOK_WORDS words a cell
   pub book : List ℕ
   -- smoothing: 4 words a cell for the sum, 2 for count and touch
   pub sums : List F.Cell
