@@ -1,4 +1,4 @@
-// What other languages link: the entries of the engine, and the square root and normalising, section 1 of document 01. The static library defines each
+// What other languages link: the entries of the engine, and the square root and normalising. The static library defines each
 // function under its own name, which begins with the crate's. None has a `requires`: every input is answered.
 #![tactic(auto)]
 

@@ -1,9 +1,10 @@
-// Document 01, section 8: reading a file, as other languages link it. Any bytes, any words in any slices of any lengths: every call is answered.
+// Reading a file, as other languages link it. Any bytes, any words in any slices of any lengths: every call is answered.
 ghost use Rattle.geom.specs.File.{loaded};
 ghost use Rattle.judge.specs.Judged.{bench};
 ghost use Rattle.told.specs.Told.{Reads};
 
 use figure::load;
+use geom::bench::{Bench, BenchMut};
 use told::opening::tell_reading;
 
 // Reads a file onto the first of two benches. Answers 0 where a mesh was read, else the refusal's number; `answer` is left with the kind, 0
@@ -31,8 +32,7 @@ pub extern "C" fn aljumeste_read(
 ) -> u8
     ensures { Reads result answer.new (bench positions.new marks.new points.new lines.new areas.new volumes.new curves.new steps.new) (loaded (bench positions.old marks.old points.old lines.old areas.old volumes.old curves.old steps.old) (bench other_positions.now other_marks.now other_points.now other_lines.now other_areas.now other_volumes.now other_curves.now other_steps.now) file.now) }
 {
-    let reading = load(
-        file,
+    let mut first = BenchMut {
         positions,
         marks,
         points,
@@ -41,14 +41,16 @@ pub extern "C" fn aljumeste_read(
         volumes,
         curves,
         steps,
-        other_positions,
-        other_marks,
-        other_points,
-        other_lines,
-        other_areas,
-        other_volumes,
-        other_curves,
-        other_steps,
-    );
-    tell_reading(reading, answer)
+    };
+    let second = Bench {
+        positions: other_positions,
+        marks: other_marks,
+        points: other_points,
+        lines: other_lines,
+        areas: other_areas,
+        volumes: other_volumes,
+        curves: other_curves,
+        steps: other_steps,
+    };
+    tell_reading(load(file, &mut first, &second), answer)
 }

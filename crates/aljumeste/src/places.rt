@@ -1,8 +1,8 @@
-// Document 01, 'Who can cause which refusal': what a refinement leaves of a list, as other languages link it. An export can return no slice, so it
+// What a refinement leaves of a list, as other languages link it. An export can return no slice, so it
 // says where the words stand.
 ghost use Rattle.left.specs.Place.{Placed};
 
-use left::{place, place_positions};
+use left::place;
 
 // Where the words that are left of a list stand, of two slices of any lengths: `answer` is left with the bench, 0 the first and 1 the second, and
 // how many words of it count, `words` or all there are.
@@ -30,5 +30,5 @@ pub extern "C" fn aljumeste_left_positions<'a>(
 )
     ensures { Placed passes numbers first.now second.now answer.new }
 {
-    place_positions(first, second, passes, numbers, answer);
+    place(first, second, passes, numbers, answer);
 }

@@ -1,9 +1,10 @@
-// Document 01, section 7: the normals, as other languages link them. Any words in any slices of any lengths, any sizes: every call is
+// The normals, as other languages link them. Any words in any slices of any lengths, any sizes: every call is
 // answered.
 ghost use Rattle.geom.specs.Turning.{three, four, Shades};
 ghost use Rattle.judge.specs.Judged.{bench};
 ghost use Rattle.told.specs.Told.{sizes_from, verdict_by};
 
+use geom::bench::Bench;
 use normals3::compute_normals_3d;
 use normals4::compute_normals_4d;
 use told::words::{number, stated};
@@ -25,11 +26,17 @@ pub extern "C" fn aljumeste_compute_normals_3d(
 ) -> u8
     ensures { Shades three (sizes_from 0 sizes.now) (bench positions.now marks.now points.now lines.now areas.now volumes.now curves.now steps.now) normals.old (record { verdict = verdict_by result; out = normals.new }) }
 {
-    let handed = stated(sizes);
-    let ended = compute_normals_3d(
-        handed, positions, marks, points, lines, areas, volumes, curves, steps, normals,
-    );
-    number(ended)
+    let bench = Bench {
+        positions,
+        marks,
+        points,
+        lines,
+        areas,
+        volumes,
+        curves,
+        steps,
+    };
+    number(compute_normals_3d(stated(sizes), &bench, normals))
 }
 
 // In four dimensions, on the same terms, with 4 words a vertex.
@@ -48,9 +55,15 @@ pub extern "C" fn aljumeste_compute_normals_4d(
 ) -> u8
     ensures { Shades four (sizes_from 0 sizes.now) (bench positions.now marks.now points.now lines.now areas.now volumes.now curves.now steps.now) normals.old (record { verdict = verdict_by result; out = normals.new }) }
 {
-    let handed = stated(sizes);
-    let ended = compute_normals_4d(
-        handed, positions, marks, points, lines, areas, volumes, curves, steps, normals,
-    );
-    number(ended)
+    let bench = Bench {
+        positions,
+        marks,
+        points,
+        lines,
+        areas,
+        volumes,
+        curves,
+        steps,
+    };
+    number(compute_normals_4d(stated(sizes), &bench, normals))
 }

@@ -1,9 +1,10 @@
-// Document 01, section 6: the triangulation, as other languages link it. Any words in any slices of any lengths, any sizes: every call is
+// The triangulation, as other languages link it. Any words in any slices of any lengths, any sizes: every call is
 // answered.
 ghost use Rattle.judge.specs.Judged.{bench};
 ghost use Rattle.triangulation.specs.Entry.{cuts, Triangulates};
 ghost use Rattle.told.specs.Told.{sizes_from, outcome_from};
 
+use geom::bench::Bench;
 use told::words::{stated, tell_sizes};
 use triangulation::triangulate;
 
@@ -26,10 +27,16 @@ pub extern "C" fn aljumeste_triangulate(
 ) -> u8
     ensures { Triangulates (sizes_from 0 sizes.now) (bench positions.now marks.now points.now lines.now areas.now volumes.now curves.now steps.now) (cuts triangles.old tetrahedra.old) (record { outcome = outcome_from result answer.new; out = cuts triangles.new tetrahedra.new }) }
 {
-    let handed = stated(sizes);
-    let a = triangulate(
-        handed, positions, marks, points, lines, areas, volumes, curves, steps, triangles,
-        tetrahedra,
-    );
+    let bench = Bench {
+        positions,
+        marks,
+        points,
+        lines,
+        areas,
+        volumes,
+        curves,
+        steps,
+    };
+    let a = triangulate(stated(sizes), &bench, triangles, tetrahedra);
     tell_sizes(a, answer)
 }

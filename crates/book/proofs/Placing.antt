@@ -11,17 +11,16 @@ use lib.ListN.{length, get_or, length-append}
 use borrow.Author.Tests.{leb-false, le-leb, lt-leb, eq-eqb, ne_eqb, eqb-true, eqb-false}
 use Rattle.index.specs.Cells.{pairs, words_from, key_at, keys_of}
 use Rattle.index.specs.Answers.{Holds, Lacks, Sought, Free, Entered}
-use Rattle.index.specs.declared.Found as Told
-use Rattle.index.specs.declared.Found.TheVariants.{At, Nowhere}
+use Rattle.std.specs.Prelude.{Result, Ok, Err}
 use Rattle.geom.specs.Answers.{whole, fitted}
 use Rattle.geom.specs.Book.{Kind, cubes, simplices, Pair, pair, Book, Found, found, none, find, seek, vertex_or, book_or, midpoint}
 use Rattle.geom.specs.Memory.{first_of}
 use Rattle.geom.proofs.Endings.{stopped_bursts}
 use Rattle.geom.proofs.Rows.{length_first_of}
-use Rattle.book.specs.declared.Asked.{Asked}
-use Rattle.book.specs.declared.Asked.TheVariants.{Vertex, Full}
+use Rattle.book.specs.declared.Full.{Full}
+use Rattle.book.specs.declared.Book.{Book as Held}
 use Rattle.book.specs.Cells.{cells, pair_at, pairs_of, key_of}
-use Rattle.book.specs.Answers.{Still, vacant_of, Ready, Placed, grown, placing, Answered}
+use Rattle.book.specs.Answers.{Still, Ready, Kept, Placed, Beside, grown, placing, Answered}
 use Rattle.book.proofs.Search.{find_nowhere, find_first}
 
 -- the book on the cells has as many entries as are made
@@ -58,13 +57,13 @@ pairs_more words after made q e =
 
 -- ── the search's answer ──
 
-module _ (base room made : ℕ) (words : List ℕ) (q : Pair) (f : Told.Found) (r : Ready base room made words) (s : Sought words made (key_of q) f) where
+module _ (base room made : ℕ) (words : List ℕ) (q : Pair) (f : Result ℕ ℕ) (r : Ready base room made words) (s : Sought words made (key_of q) f) where
   -- an entry was found
-  pub hit : {e : ℕ} → f ≡ At e → Holds pairs words made (key_of q) e
+  pub hit : {e : ℕ} → f ≡ Ok e → Holds pairs words made (key_of q) e
   hit is = rw is at s
 
   -- its vertex is the definition's
-  pub hit_found : {e : ℕ} → f ≡ At e → found (base + e) ≡ find base (pairs_of words made) q
+  pub hit_found : {e : ℕ} → f ≡ Ok e → found (base + e) ≡ find base (pairs_of words made) q
   unfolding pairs_of
   hit_found {e} is =
       let h = hit is in
@@ -72,24 +71,24 @@ module _ (base room made : ℕ) (words : List ℕ) (q : Pair) (f : Told.Found) (
       sym (find_first base (pair_at words) made q e h.below (key_pair words e q h.is) first)
 
   -- none was found
-  missed : {at : ℕ} → f ≡ Nowhere at → Lacks pairs words made (key_of q) at
+  missed : {at : ℕ} → f ≡ Err at → Lacks pairs words made (key_of q) at
   missed is = rw is at s
 
   -- nor does the definition find one
-  pub missed_none : {at : ℕ} → f ≡ Nowhere at → none ≡ find base (pairs_of words made) q
+  pub missed_none : {at : ℕ} → f ≡ Err at → none ≡ find base (pairs_of words made) q
   unfolding pairs_of
   missed_none is = sym (find_nowhere base (pair_at words) made q (λ d l same. (missed is).absent d l (pair_key words d q same)))
 
   -- and with room a new entry can be made
-  pub missed_free : {at v : ℕ} → f ≡ Nowhere at → v ≡ vacant_of f → made < room → Free pairs words made (key_of q) v
-  missed_free is e l =
+  pub missed_free : {at : ℕ} → f ≡ Err at → made < room → Free pairs words made (key_of q) at
+  missed_free is l =
       let h = missed is in
       let lent : made < cells words = omega (arith, r.lent) in
       record {
         lent = lent;
         few = omega (arith, r.numbers);
         absent = h.absent;
-        place = rw (e ∙ ap vacant_of is) (h.hangs lent);
+        place = h.hangs lent;
       }
 
 -- ── what becomes of the book ──
@@ -138,21 +137,21 @@ crowded base room made words q is l =
 
 module _ {kind : Kind} {base room made : ℕ} {q : Pair} {words after : List ℕ} where
   -- a midpoint that is placed is the definition's answer
-  pub answers : {v m : ℕ} → Placed kind base room made q words after v m → Answered kind base room made q words after (Vertex v m)
+  pub answers : {v m : ℕ} → Placed kind base room made q words after v m → Answered kind base room made q words after (Ok (record { value = v; made = m }))
   answers {v} {m} p =
       let n : m ≡ length (grown kind base (pairs_of words made) q) = sym (length_pairs after m) ∙ ap length p.book in
       record {
         answer =
-            (λ i. whole (record { vertex = p.vertex i; made = n i }))
+            (λ i. whole (record { value = p.vertex i; made = n i }))
             ∙ ap (λ (t : Bool). fitted t (placing kind base (pairs_of words made) q)) (sym (le-leb (length (grown kind base (pairs_of words made) q)) room (omega (arith, n, p.ready.within))));
         placed = p;
       }
 
   -- a book that outgrows the room is refused by 10
-  pub refuses : room < length (grown kind base (pairs_of words made) q) → Answered kind base room made q words after Full
+  pub refuses : {e : Full} → room < length (grown kind base (pairs_of words made) q) → Answered kind base room made q words after (Err e)
   refuses l = record { answer = ap (λ (t : Bool). fitted t (placing kind base (pairs_of words made) q)) (sym (lt-leb (length (grown kind base (pairs_of words made) q)) room l)); placed = tt }
 
-  pub outgrows : Answered kind base room made q words after Full → room < length (grown kind base (pairs_of words made) q)
+  pub outgrows : {e : Full} → Answered kind base room made q words after (Err e) → room < length (grown kind base (pairs_of words made) q)
   outgrows a = leb-false _ _ (stopped_bursts (leb (length (grown kind base (pairs_of words made) q)) room) _ a.answer)
 
 -- ── cubes ──
@@ -179,10 +178,10 @@ seek_apart base a b book ne = ap (λ (s : Bool). cond s (found a) (find base boo
 
 -- any other pair is asked for as in simplices
 pub answered_apart :
-    (base room made a b : ℕ) (words after : List ℕ) (r : Asked) → (a ≡ b → ⊥)
+    (base room made a b : ℕ) (words after : List ℕ) (r : Result (Beside ℕ) Full) → (a ≡ b → ⊥)
     → Answered simplices base room made (pair a b) words after r → Answered cubes base room made (pair a b) words after r
 unfolding midpoint
-answered_apart base room made a b words after (Vertex v m) ne r =
+answered_apart base room made a b words after (Ok m) ne r =
     let book = pairs_of words made in
     let e = seek_apart base a b book ne in
     let p = r.placed in
@@ -192,7 +191,7 @@ answered_apart base room made a b words after (Vertex v m) ne r =
       vertex = p.vertex ∙ ap (vertex_or (base + length book)) e;
       book = p.book ∙ ap (book_or book (pair a b)) e;
     })
-answered_apart base room made a b words after Full ne r =
+answered_apart base room made a b words after (Err e) ne r =
     refuses (subst (λ (f : Found). room < length (book_or (pairs_of words made) (pair a b) f)) (seek_apart base a b (pairs_of words made) ne) (outgrows r))
 
 -- ── by the kind ──
@@ -205,6 +204,14 @@ answered_still simplices r s t w = let z : ◌≡◌ {A = ℕ} 0 1 = cc in absur
 
 pub answered_by :
     (k : Kind) (base room made a b : ℕ) (words after : List ℕ) (r : Bool) → Still k a b r → r ≡ false
-    → (x : Asked) → Answered simplices base room made (pair a b) words after x → Answered k base room made (pair a b) words after x
+    → (x : Result (Beside ℕ) Full) → Answered simplices base room made (pair a b) words after x → Answered k base room made (pair a b) words after x
 answered_by cubes base room made a b words after r s f x p = answered_apart base room made a b words after x (eqb-false a b (sym s ∙ f)) p
 answered_by simplices base room made a b words after r s f x p = p
+
+-- ── the book stays the same one ──
+
+pub kept_still : {b : Held} → Kept b b
+kept_still = record { same = refl; cells = refl; room = refl; base = refl }
+
+pub kept_on : {b c d : Held} → Kept b c → Kept c d → Kept b d
+kept_on k l = record { same = l.same ∙ k.same; cells = l.cells ∙ k.cells; room = l.room ∙ k.room; base = l.base ∙ k.base }

@@ -11,16 +11,15 @@ use lib.Dec.{eqb}
 use lib.ListN.{length, get_or, take, drop}
 use borrow.Author.Tests.{eq-eqb, ne_eqb}
 use Rattle.geom.specs.Book.{cubes, pair, Book, Made, seek, book_or, each, place, mids}
-use Rattle.geom.specs.Elements.{Element, point_at, shut, flat, pairs_of as edge_pairs}
+use Rattle.geom.specs.Elements.{Element, point_at, shut, flat}
 use Rattle.geom.specs.Rules.{divide}
-use Rattle.geom.specs.Cubes.{SQUARE_AXES, SQUARE_EDGES, SQUARE, diagonal, no_square, square}
+use Rattle.geom.specs.Cubes.{SQUARE_AXES, SQUARE, diagonal, no_square, square}
 use Rattle.geom.specs.Memory.{first_of, element_row, element_of}
 use Rattle.geom.proofs.Lists.{and_true}
 use Rattle.book.specs.Cells.{pairs_of}
 use Rattle.book.specs.Answers.{Ready, Placed}
 use Rattle.division.specs.Writing.{Laid, Extends, Exceeds}
 use Rattle.division.proofs.Rows.{first_of_part}
-use Rattle.division.proofs.Folds.{mids_grows}
 use Rattle.division.proofs.Flats.{or_false}
 use Rattle.division.proofs.Assembling.{laid_none}
 
@@ -31,21 +30,6 @@ flat_is a b c d = go (eqb a c) (eqb b d) (eqb a b) (eqb c d)
   where
     go : (x y z w : Bool) → ((x && y) || (z && w)) ≡ ((x && (y && true)) || ((z && (w && true)) || false))
     go x y z w = let e = and_true y in let f = and_true w in let g = or_false (z && w) in cc
-
--- a square only adds to the book
-pub square_grows : (base : ℕ) (b : Book) (x : Element) → length b ≤ length (square base b x).book
-unfolding square divide
-square_grows base b x = go (eqb (point_at x.corners 0) (point_at x.corners 3)) (flat SQUARE_AXES x.corners)
-  where
-    go :
-        (s t : Bool)
-        → length b
-        ≤ length
-        (cond s (record { made = []; book = b })
-        (cond t (no_square (mids cubes base b (diagonal x.corners ∷ []))) (divide cubes SQUARE base b x))).book
-    go true t = omega arith
-    go false true = mids_grows cubes base b (diagonal x.corners ∷ [])
-    go false false = mids_grows cubes base b (edge_pairs x.corners SQUARE_EDGES)
 
 module _ (base row made : ℕ) (old words : List ℕ) (lies : 5 * suc row ≤ length old) where
   abbrev a : ℕ

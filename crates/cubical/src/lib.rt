@@ -1,5 +1,5 @@
-// Document 01, section 4: squares and cubes. Places count the corners first, then the midpoints in the order in which they are made.
-// The tables are the Rust's, row for row; a row of a table of pieces ends with a 0: no piece is flipped.
+// Squares and cubes, halved along each axis: into four and into eight, flat pieces left out. Places count the corners first, then the midpoints in the
+// order in which they are made. The tables are the Rust's, row for row; a row of a table of pieces ends with a 0: no piece is flipped.
 #![tactic(auto)]
 
 ghost use Rattle.std.specs.Prelude.{◌≡◌, suc, ◌*◌, ◌≤◌, length, [], ◌∷◌, map};
@@ -7,13 +7,14 @@ ghost use Rattle.geom.specs.Book.{each};
 ghost use Rattle.geom.specs.Elements.{flat};
 ghost use Rattle.geom.specs.Cubes.{SQUARE_AXES as square_axes, SQUARE, square as square_by, cube as cube_by};
 ghost use Rattle.geom.specs.Memory.{first_of, element_row, element_of};
-ghost use Rattle.book.specs.Cells.{pairs_of};
-ghost use Rattle.division.specs.Writing.{Begun, Extended, Passed};
+ghost use Rattle.book.specs.Answers.{pairs_in, Kept};
+ghost use Rattle.division.specs.Writing.{Begins, Extended, Passed};
 ghost use Rattle.division.specs.Shapes.{shape_of, Shaped};
+ghost use Rattle.cubical.specs.Growing.{square_grows};
 
-use book::Asked;
-use division::Written;
+use book::{Book, Full};
 use division::elements::{divide_all, divide_from, middle};
+use division::rules::{RowRule, each_row};
 use geom::kind::Kind;
 
 // Square [a,b,c,d]: midpoints ad, ab, ac, bd, cd in this order.
@@ -101,33 +102,24 @@ fn square(
     new: &mut [u32],
     rows: usize,
     cells: usize,
-    book: &mut [u32],
-    made: usize,
-    room: usize,
-    base: usize,
-) -> Written
+    book: &mut Book,
+) -> Result<usize, Full>
     requires row_in_bounds { 5 * suc row ≤ length old.now }
     requires shaped { Shaped 4 edges.now order.now table.now axes.now }
     requires axes_value { shape_of 4 edges.now order.now table.now axes.now ≡ SQUARE }
-    requires begun { Begun 4 base room cells rows made new.old book.old }
-    ensures { Extended 4 base room cells rows (square_by base (pairs_of book.old made) (element_of (element_row 4 old.now row))) new.old new.new book.new result }
+    requires begun { Begins 4 cells rows new.old book.old }
+    ensures kept { Kept book.old book.new }
+    ensures extended { Extended 4 cells rows (square_by book.old.base (pairs_in book.old) (element_of (element_row 4 old.now row))) new.old new.new book.old book.new result }
 {
     let from = 5 * row;
     let a = old[from];
     let d = old[from + 3];
     if a == d {
-        return Written::Rows { rows, made };
+        return Ok(rows);
     }
     if is_flat(a, old[from + 1], old[from + 2], d) {
-        let asked = middle(Kind::Cubes, book, made, room, base, a, d);
-        let Asked::Vertex {
-            vertex: _,
-            made: next,
-        } = asked
-        else {
-            return Written::Full;
-        };
-        return Written::Rows { rows, made: next };
+        middle(Kind::Cubes, book, a, d)?;
+        return Ok(rows);
     }
     divide_from(
         Kind::Cubes,
@@ -143,55 +135,40 @@ fn square(
         rows,
         cells,
         book,
-        made,
-        room,
-        base,
     )
 }
 
-// Squares in list order, by their tables, which are laid out once for all of them.
-fn squares_by(
-    old: &[u32],
-    count: usize,
-    edges: &[usize],
-    order: &[usize],
-    table: &[usize],
-    axes: &[usize],
-    new: &mut [u32],
-    cells: usize,
-    book: &mut [u32],
-    made: usize,
-    room: usize,
-    base: usize,
-) -> Written
-    requires count_in_bounds { 5 * count ≤ length old.now }
-    requires shaped { Shaped 4 edges.now order.now table.now axes.now }
-    requires axes_value { shape_of 4 edges.now order.now table.now axes.now ≡ SQUARE }
-    requires begun { Begun 4 base room cells 0 made new.old book.old }
-    ensures { Passed base room cells (each (square_by base) (pairs_of book.old made) (map element_of (first_of (element_row 4 old.now) count))) new.old new.new book.new result }
-{
-    let mut rows = 0;
-    let mut entries = made;
-    let mut i = 0;
-    while i < count {
-        let written = square(
-            old, i, edges, order, table, axes, new, rows, cells, book, entries, room, base,
-        );
-        let Written::Rows {
-            rows: more,
-            made: next,
-        } = written
-        else {
-            return Written::Full;
-        };
-        rows = more;
-        entries = next;
-        i += 1;
+// The rule of squares, by their tables, which are laid out once for all of them.
+#[derive(Clone, Copy)]
+struct SquareRule<'a> {
+    edges: &'a [usize],
+    order: &'a [usize],
+    table: &'a [usize],
+    axes: &'a [usize],
+}
+
+impl<'a> RowRule for SquareRule<'a> {
+    ghost corners = { 4 };
+
+    ghost Stands = { λ s. Shaped 4 s.edges.now s.order.now s.table.now s.axes.now × shape_of 4 s.edges.now s.order.now s.table.now s.axes.now ≡ SQUARE };
+
+    ghost makes = { λ s. square_by };
+
+    fn divide(
+        &self,
+        old: &[u32],
+        row: usize,
+        new: &mut [u32],
+        rows: usize,
+        cells: usize,
+        book: &mut Book,
+    ) -> Result<usize, Full> {
+        square(
+            old, row, self.edges, self.order, self.table, self.axes, new, rows, cells, book,
+        )
     }
-    Written::Rows {
-        rows,
-        made: entries,
-    }
+
+    ghost grows = { λ s. square_grows };
 }
 
 // Squares in list order.
@@ -200,29 +177,20 @@ pub fn squares(
     count: usize,
     new: &mut [u32],
     cells: usize,
-    book: &mut [u32],
-    made: usize,
-    room: usize,
-    base: usize,
-) -> Written
+    book: &mut Book,
+) -> Result<usize, Full>
     requires count_in_bounds { 5 * count ≤ length old.now }
-    requires begun { Begun 4 base room cells 0 made new.old book.old }
-    ensures { Passed base room cells (each (square_by base) (pairs_of book.old made) (map element_of (first_of (element_row 4 old.now) count))) new.old new.new book.new result }
+    requires begun { Begins 4 cells 0 new.old book.old }
+    ensures kept { Kept book.old book.new }
+    ensures passed { Passed cells (each (square_by book.old.base) (pairs_in book.old) (map element_of (first_of (element_row 4 old.now) count))) new.old new.new book.old book.new result }
 {
-    squares_by(
-        old,
-        count,
-        &SQUARE_EDGES,
-        &SQUARE_POINTS,
-        &SQUARE_ASSEMBLY_ORDER,
-        &SQUARE_AXES,
-        new,
-        cells,
-        book,
-        made,
-        room,
-        base,
-    )
+    let rule = SquareRule {
+        edges: &SQUARE_EDGES,
+        order: &SQUARE_POINTS,
+        table: &SQUARE_ASSEMBLY_ORDER,
+        axes: &SQUARE_AXES,
+    };
+    each_row(&rule, old, count, new, cells, book)
 }
 
 // Cubes in list order.
@@ -231,14 +199,12 @@ pub fn cubes(
     count: usize,
     new: &mut [u32],
     cells: usize,
-    book: &mut [u32],
-    made: usize,
-    room: usize,
-    base: usize,
-) -> Written
+    book: &mut Book,
+) -> Result<usize, Full>
     requires count_in_bounds { 9 * count ≤ length old.now }
-    requires begun { Begun 8 base room cells 0 made new.old book.old }
-    ensures { Passed base room cells (each (cube_by base) (pairs_of book.old made) (map element_of (first_of (element_row 8 old.now) count))) new.old new.new book.new result }
+    requires begun { Begins 8 cells 0 new.old book.old }
+    ensures kept { Kept book.old book.new }
+    ensures passed { Passed cells (each (cube_by book.old.base) (pairs_in book.old) (map element_of (first_of (element_row 8 old.now) count))) new.old new.new book.old book.new result }
 {
     divide_all(
         Kind::Cubes,
@@ -252,8 +218,5 @@ pub fn cubes(
         new,
         cells,
         book,
-        made,
-        room,
-        base,
     )
 }

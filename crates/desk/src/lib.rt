@@ -1,60 +1,46 @@
 // The desk of the program `sheet`: 1,024 cells for each list of the file's kind, and for the book.
 #![tactic(auto)]
 
-ghost use Rattle.std.specs.Prelude.{◌≡◌, suc, ◌*◌, length};
+ghost use Rattle.std.specs.Prelude.{◌≡◌, suc, ◌*◌};
 ghost use Rattle.geom.specs.Kinds.{kind_of};
 ghost use Rattle.geom.specs.Memory.{area_corners, volume_corners};
-ghost use Rattle.geom.specs.Refusals.{BOOK_WORDS};
-ghost use Rattle.desk.specs.Desk.{kind_said};
+ghost use Rattle.desk.specs.Desk.{Wide, kind_said};
 
 use geom::kind::Kind;
 use index::CELL;
 
 // The words that are lent to the book.
-const BOOK: usize = 1024 * CELL;
+pub const BOOK: usize = 1024 * CELL;
 
-// Fresh cells. The length is promised, since lending them as a slice asks for it.
-pub fn cells_1024() -> [u32; 1024]
-    ensures { 1024 ≡ length result }
-{
-    [0; 1024]
+// The arrays of a bench: 1,024 cells for each list. Areas and volumes have the words that those of cubes take; where simplices are read,
+// fewer are lent.
+#[derive(Drop)]
+pub struct Arrays {
+    pub positions: [f32; 4096],
+    pub marks: [u32; 3072],
+    pub points: [u32; 1024],
+    pub lines: [u32; 3072],
+    pub areas: [u32; 5120],
+    pub volumes: [u32; 9216],
+    pub curves: [u32; 2048],
+    pub steps: [u32; 2048],
 }
 
-pub fn cells_2048() -> [u32; 2048]
-    ensures { 2048 ≡ length result }
-{
-    [0; 2048]
-}
-
-pub fn cells_3072() -> [u32; 3072]
-    ensures { 3072 ≡ length result }
-{
-    [0; 3072]
-}
-
-pub fn cells_5120() -> [u32; 5120]
-    ensures { 5120 ≡ length result }
-{
-    [0; 5120]
-}
-
-pub fn cells_9216() -> [u32; 9216]
-    ensures { 9216 ≡ length result }
-{
-    [0; 9216]
-}
-
-pub fn numbers_4096() -> [f32; 4096]
-    ensures { 4096 ≡ length result }
-{
-    [0.0; 4096]
-}
-
-// The cells of the book.
-pub fn book_cells() -> [u32; BOOK]
-    ensures { 1024 * BOOK_WORDS ≡ length result }
-{
-    [0; BOOK]
+impl Arrays {
+    pub fn blank() -> Self
+        ensures { Wide result }
+    {
+        Arrays {
+            positions: [0.0; 4096],
+            marks: [0; 3072],
+            points: [0; 1024],
+            lines: [0; 3072],
+            areas: [0; 5120],
+            volumes: [0; 9216],
+            curves: [0; 2048],
+            steps: [0; 2048],
+        }
+    }
 }
 
 // The kind that the file says: how many words are lent to areas and volumes depends on it. Where it says none, the file is refused
@@ -62,13 +48,10 @@ pub fn book_cells() -> [u32; BOOK]
 pub fn look(file: &[u8]) -> Kind
     ensures { kind_of result ≡ kind_said file.now }
 {
-    if file.len() < 2 {
-        return Kind::Cubes;
+    match file.get(1) {
+        None | Some(0) => Kind::Cubes,
+        Some(_) => Kind::Simplices,
     }
-    if file[1] == 0 {
-        return Kind::Cubes;
-    }
-    Kind::Simplices
 }
 
 // The words of 1,024 areas.

@@ -1,23 +1,29 @@
 -- The pieces of an element, written one behind the other behind the rows that stand, flat ones left out.
 -- Assumes nothing.
-use mathlib.Core.Path.{◌≡◌, refl, sym, ◌∙◌, ap, subst}
+use mathlib.Core.Path.{◌≡◌, refl, sym, ◌∙◌, ap, ap₂, subst}
 use mathlib.Core.Bool.{Bool, true, false}
 use mathlib.Core.Logic.{⊎_elim}
 use mathlib.Core.List.{List, [], ◌∷◌, ◌++◌, flat_map, append-nil}
 use Prim.Native.Nat.{ℕ, zero, suc, ◌+◌, ◌*◌, ◌-◌, ◌/◌, ◌<◌, ◌≤◌}
 use native.Mathlib.Omega.{arith}
-use native.Mathlib.Nat.{eq-or-lt_of_le, add-zero, mul-zero, mul-suc, mul_comm, mul-le-mul_left, le-div_iff_mul-le, div-eq_of_lt-le}
+use native.Mathlib.Nat.{eq-or-lt_of_le, add-zero, zero-add, mul-zero, mul-suc, mul_comm, mul-le-mul_left, le-div_iff_mul-le, div-eq_of_lt-le}
 use native.Mathlib.Numerals.{add-one}
-use lib.ListN.{length, get_or, take, drop, set, length-append}
+use lib.ListN.{length, get_or, take, drop, set, length-append, length-drop, get_or-append}
+use lib.Seq.{drop_at, get_or-drop, drop-drop}
+use Rattle.std.proofs.lemmas.List.{take-append-le}
 use Rattle.geom.specs.declared.parity.Parity.{Parity}
 use Rattle.geom.specs.Parity.{times}
-use Rattle.geom.specs.Book.{Pair}
+use Rattle.std.specs.Prelude.{Result, Ok, Err}
+use Rattle.geom.specs.Book.{Pair, Made}
+use Rattle.book.specs.declared.Full.{Full}
+use Rattle.book.specs.declared.Book.{Book as Held}
 use Rattle.geom.specs.Elements.{Element, Row, pick, flat, unless, pieces}
 use Rattle.geom.specs.Memory.{first_of, element_row, element_words, parity_of, parity_word}
 use Rattle.geom.proofs.Rows.{map_first_of}
-use Rattle.division.specs.Writing.{written, Laid}
-use Rattle.division.specs.Shapes.{row_of, table_of, axes_of, kept_from}
+use Rattle.division.specs.Writing.{written, Laid, Laying, Extends, Exceeds, Extended}
+use Rattle.division.specs.Shapes.{below, row_of, table_of, axes_of, kept_from}
 use Rattle.division.proofs.Rows.{written_none, written_set, written_more, length_written}
+use Rattle.division.proofs.Tables.{below_at, below_all}
 use Rattle.division.proofs.Dividing.{row_words, words_append, row_on, length_pick}
 
 -- ── elements behind the rows that stand ──
@@ -237,3 +243,79 @@ module _ (k : ℕ) (p : Parity) (points table axes : List ℕ) where
         (omega (arith, a.came, a.within, mul-suc (suc k) n, mul_comm (suc n) (suc k), add-one n))
         in
         subst (λ (es : List Element). Laid k cells rows es new words filled) (ap pieces_to (sym e) ∙ sym pieces_all) a.laid
+
+  -- ── the rows, cut off one after the other ──
+
+  pub record Rowing (cells rows : ℕ) (new rest : List ℕ) (size filled : ℕ) (words : List ℕ) : Type 0 where
+    pub from : ℕ
+    pub assembling : Assembling cells rows new from filled words
+    pub lies : rest ≡ drop from table
+    pub wide : size ≡ k + 1
+
+  pub rowing_start :
+      {cells rows size : ℕ} {new rest : List ℕ} → rest ≡ table → size ≡ k + 1 → rows ≤ cells → suc k * cells ≤ length new
+      → Rowing cells rows new rest size rows new
+  rowing_start e w l lent = record { from = 0; assembling = assembling_start l lent; lies = e; wide = w }
+
+  module _ {cells rows : ℕ} {new rest : List ℕ} {size filled : ℕ} {words : List ℕ} (r : Rowing cells rows new rest size filled words) where
+    pub rowing_done : length rest < size → Laid k cells rows (pieces (axes_of k axes) p points (table_of k table)) new words filled
+    rowing_done l = assembling_done r.assembling (omega (arith, ap length r.lies, length-drop r.from table, r.wide))
+
+    module _ (x after : List ℕ) (cut : rest ≡ x ++ after) (long : length x ≡ size) where
+      row_lies : k < length table - r.from
+      row_lies = omega (arith, ap length (sym r.lies ∙ cut), length-append x after, length-drop r.from table, r.wide, long)
+
+      pub rowing_turn : Turn cells new r.from filled words
+      rowing_turn = assembling_turn r.assembling row_lies
+
+      row_is : kept_from k p points x axes 0 ≡ kept_from k p points table axes r.from
+      row_is =
+          let ws : take k x ≡ take k (drop r.from table) = sym (take-append-le k x after (omega (arith, r.wide))) ∙ ap (take k) (sym cut ∙ r.lies) in
+          let w : get_or x (0 + k) 0 ≡ get_or table (r.from + k) 0 =
+          ap (λ (i : ℕ). get_or x i 0) (zero-add k)
+          ∙ sym (get_or-append x after 0 k (omega (arith, r.wide)))
+          ∙ ap (λ (y : List ℕ). get_or y k 0) (sym cut ∙ r.lies)
+          ∙ get_or-drop r.from table k 0
+          in
+          ap₂
+          (λ (cs : List ℕ) (f : ℕ).
+          unless (flat (axes_of k axes) (pick points cs)) (record { corners = pick points cs; parity = times (parity_of f) p }) [])
+          ws w
+
+      pub row_below : (n : ℕ) → below n table ≡ true → below n x ≡ true
+      row_below n e =
+          below_all n x
+          (λ i l.
+          let a : get_or x i 0 ≡ get_or table (r.from + i) 0 =
+          sym (get_or-append x after 0 i l) ∙ ap (λ (y : List ℕ). get_or y i 0) (sym cut ∙ r.lies) ∙ get_or-drop r.from table i 0
+          in
+          let b = below_at n table e (r.from + i) (omega (arith, rowing_turn.row, r.wide)) in
+          omega (arith, a, b))
+
+      pub rowing_full :
+          cells < filled + length (kept_from k p points x axes 0)
+          → cells < rows + length (pieces (axes_of k axes) p points (table_of k table))
+      rowing_full l =
+          assembling_full r.assembling rowing_turn.row (subst (λ (es : List Element). cells < filled + length es) row_is l)
+
+      pub rowing_on :
+          {size' next : ℕ} {now : List ℕ} → size' ≡ size → Laid k cells filled (kept_from k p points x axes 0) words now next
+          → Rowing cells rows new after size' next now
+      rowing_on {size'} {next} {now} e l =
+          record {
+            from = r.from + (k + 1);
+            assembling = assembling_on r.assembling rowing_turn.row (subst (λ (es : List Element). Laid k cells filled es words now next) row_is l);
+            lies = sym (drop_at x after (k + 1) (long ∙ r.wide)) ∙ ap (drop (k + 1)) (sym cut ∙ r.lies) ∙ drop-drop (k + 1) r.from table;
+            wide = e ∙ r.wide;
+          }
+
+-- ── the last thing that is written ──
+
+-- how the pieces end, the list ends
+pub ends_as :
+    {k cells rows : ℕ} {es : List Element} {m : Made Element} {new after : List ℕ} (b book : Held)
+    → ((r : ℕ) → Laid k cells rows es new after r → Extends k b.base b.room cells rows m new after book.cells.now r book.made)
+    → (cells < rows + length es → Exceeds b.room cells rows m)
+    → (x : Result ℕ Full) → Laying k cells rows es new after x → Extended k cells rows m new after b book x
+ends_as b book fits bursts (Ok r) x = fits r x
+ends_as b book fits bursts (Err e) x = bursts x

@@ -8,8 +8,9 @@ use native.Mathlib.Omega.{arith}
 use native.Mathlib.Nat.{eq-or-lt_of_le}
 use native.Mathlib.Numerals.{add-one}
 use lib.ListN.{length, length-append}
-use Rattle.geom.specs.Book.{Kind, Pair, Book, Found, found, none, seek, book_or, midpoint, Made, each, place, mids}
+use Rattle.geom.specs.Book.{Kind, Pair, Book, seek, midpoint, Made, each, place, mids}
 use Rattle.geom.specs.Memory.{first_of}
+use Rattle.division.specs.Growing.{book_or_grows}
 
 module _ {A B : Type 0} (rule : Book → A → Made B) where
   -- what was made, and then what the rule makes of x
@@ -69,10 +70,6 @@ module _ {A B : Type 0} (rule : Book → A → Made B) where
         (eq-or-lt_of_le l)
 
 -- ── midpoints ──
-
-pub book_or_grows : (book : Book) (q : Pair) (f : Found) → length book ≤ length (book_or book q f)
-book_or_grows book q (found v) = omega arith
-book_or_grows book q none = omega (arith, length-append book (q ∷ []))
 
 pub place_grows : (kind : Kind) (base : ℕ) (book : Book) (q : Pair) → length book ≤ length (place kind base book q).book
 unfolding place

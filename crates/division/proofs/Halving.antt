@@ -17,13 +17,7 @@ use Rattle.book.specs.Answers.{Placed}
 use Rattle.book.proofs.Placing.{length_pairs}
 use Rattle.division.specs.Writing.{Laid, Extends, Exceeds}
 use Rattle.division.proofs.Rows.{first_of_part}
-use Rattle.division.proofs.Folds.{book_or_grows}
 use Rattle.division.proofs.Assembling.{laid_none}
-
--- a line only adds to the book
-pub line_grows : (kind : Kind) (base : ℕ) (b : Book) (x : Element) → length b ≤ length (line kind base b x).book
-unfolding line
-line_grows kind base b x = book_or_grows b _ (seek kind base b _)
 
 -- the line of a row
 abbrev pub lined : Kind → ℕ → List ℕ → ℕ → Book → Made Element

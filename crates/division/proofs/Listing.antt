@@ -12,8 +12,9 @@ use Rattle.geom.specs.Elements.{Element}
 use Rattle.geom.specs.Memory.{ElementRow, first_of, element_row, element_of, element_words}
 use Rattle.book.specs.Cells.{pairs_of}
 use Rattle.book.specs.Answers.{Ready}
-use Rattle.division.specs.declared.Written.{Written}
-use Rattle.division.specs.declared.Written.TheVariants.{Rows, Full}
+use Rattle.std.specs.Prelude.{Result, Ok, Err}
+use Rattle.book.specs.declared.Full.{Full}
+use Rattle.book.specs.declared.Book.{Book as Held}
 use Rattle.division.specs.Writing.{written, Begun, Extends, Exceeds, Extended, Listed, Passed}
 use Rattle.geom.proofs.Rows.{map_first_of}
 use Rattle.division.proofs.Rows.{written_none, written_more, written_over}
@@ -149,10 +150,10 @@ module _ (k base room cells front : ℕ) (rule : Book → Element → Made Eleme
 -- ---- a whole list
 
 -- behind no rows, it stands from the slice's start on
-pub from_start :
-    (k base room cells : ℕ) (m : Made Element) (new after book : List ℕ) (r : Written) → Extended k base room cells 0 m new after book r
-    → Passed base room cells m new after book r
-from_start k base room cells m new after book (Rows r e) x =
+start_lists :
+    {k base room cells : ℕ} {m : Made Element} {new after book : List ℕ} {r e : ℕ} → Extends k base room cells 0 m new after book r e
+    → Listed base room cells m new after book r e
+start_lists {k} {m = m} {new = new} x =
     record {
       ready = x.ready;
       entries = x.entries;
@@ -163,17 +164,24 @@ from_start k base room cells m new after book (Rows r e) x =
           ∙ ap (λ (at : ℕ). written new at (element_words m.made)) (mul-zero (suc k))
           ∙ written_over new (element_words m.made);
     }
-from_start k base room cells m new after book Full x =
-    ⊎_elim (λ h. inl h) (λ h. inr (omega (arith, zero-add (length m.made)))) x
+
+start_exceeds : {room cells : ℕ} (m : Made Element) → Exceeds room cells 0 m → (room < length m.book) ⊎ (cells < length m.made)
+start_exceeds m x = ⊎_elim (λ h. inl h) (λ h. inr (omega (arith, zero-add (length m.made)))) x
+
+from_start :
+    (k cells : ℕ) (m : Made Element) (new after : List ℕ) (b book : Held) (r : Result ℕ Full) → Extended k cells 0 m new after b book r
+    → Passed cells m new after b book r
+from_start k cells m new after b book (Ok rows) x = start_lists x
+from_start k cells m new after b book (Err e) x = start_exceeds m x
 
 -- the rows from the first on are all rows
 pub from_first :
-    (k base room cells : ℕ) (rule : Book → Element → Made Element) (start : Book) (old : List ℕ) (n : ℕ) (new after book : List ℕ) (r : Written)
-    → Extended k base room cells 0 (each rule start (map element_of (first_of (λ (i : ℕ). element_row k old (0 + i)) n))) new after book r
-    → Passed base room cells (each rule start (map element_of (first_of (element_row k old) n))) new after book r
-from_first k base room cells rule start old n new after book r x =
-    from_start k base room cells (each rule start (map element_of (first_of (element_row k old) n))) new after book r
-    (subst (λ (f : ℕ → ElementRow). Extended k base room cells 0 (each rule start (map element_of (first_of f n))) new after book r)
+    (k cells : ℕ) (rule : Book → Element → Made Element) (start : Book) (old : List ℕ) (n : ℕ) (new after : List ℕ) (b book : Held) (r : Result ℕ Full)
+    → Extended k cells 0 (each rule start (map element_of (first_of (λ (i : ℕ). element_row k old (0 + i)) n))) new after b book r
+    → Passed cells (each rule start (map element_of (first_of (element_row k old) n))) new after b book r
+from_first k cells rule start old n new after b book r x =
+    from_start k cells (each rule start (map element_of (first_of (element_row k old) n))) new after b book r
+    (subst (λ (f : ℕ → ElementRow). Extended k cells 0 (each rule start (map element_of (first_of f n))) new after b book r)
     (λ j i. element_row k old (zero-add i j)) x)
 
 -- one row alone
@@ -208,13 +216,13 @@ module _ (k base room cells : ℕ) (rule : Book → Element → Made Element) (s
         → (room < length (each rule start (map element_of (first_of (element_row k old) n))).book)
         ⊎ (cells < length (each rule start (map element_of (first_of (element_row k old) n))).made)
     listing_full grows l x =
-        from_start k base room cells (each rule start (map element_of (first_of (element_row k old) n))) new words cells₂ Full
+        start_exceeds (each rule start (map element_of (first_of (element_row k old) n)))
         (ranging_full k base room cells 0 rule start (element_row k old) m grows l x)
 
     pub listing_done :
         n ≤ i → Listed base room cells (each rule start (map element_of (first_of (element_row k old) n))) new words cells₂ rows entries
     listing_done l =
-        from_start k base room cells (each rule start (map element_of (first_of (element_row k old) n))) new words cells₂ (Rows rows entries)
+        start_lists
         (ranging_done k base room cells 0 rule start (element_row k old) m l)
 
 -- a list without entries makes nothing

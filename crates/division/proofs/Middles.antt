@@ -1,6 +1,6 @@
 -- The midpoints of an element's edges, one after the other, behind its corners.
 -- Assumes nothing.
-use mathlib.Core.Path.{◌≡◌, refl, sym, ◌∙◌, ap}
+use mathlib.Core.Path.{◌≡◌, refl, sym, ◌∙◌, ap, subst}
 use mathlib.Core.Bool.{true}
 use mathlib.Core.List.{List, [], ◌∷◌, ◌++◌}
 use Prim.Native.Nat.{ℕ, ◌+◌, ◌*◌, ◌/◌, ◌<◌, ◌≤◌}
@@ -175,3 +175,10 @@ pub middle_crowded :
     → room < length (book_or (pairs_of words made) (pair a b) (seek kind base (pairs_of words made) (pair a b)))
 unfolding middles_of mids each place edge_pairs edges_of edge_at first_of
 middle_crowded kind base room made a b words l = l
+
+-- the cells that were held are the book's
+pub middled_held :
+    {corners base room e : ℕ} {points after book words : List ℕ} {m : Made ℕ} → Middled corners base room points m after book e → book ≡ words
+    → Middled corners base room points m after words e
+middled_held {corners} {base} {room} {e} {points} {after} {book} {words} {m} x same =
+    subst (λ (w : List ℕ). Middled corners base room points m after w e) same x

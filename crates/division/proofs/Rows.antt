@@ -72,6 +72,11 @@ module _ {A : Type 0} where
   written_over old out =
       ap (λ (k : ℕ). out ++ drop k old) (zero-add (length out))
 
+  -- and behind it the old words stay
+  pub written_copy : (old out : List A) (n : ℕ) → length out ≡ n → out ++ drop n old ≡ written old 0 out
+  unfolding over
+  written_copy old out n e = ap (λ (k : ℕ). out ++ drop k old) (sym e) ∙ sym (written_over old out)
+
   -- the words before it stay
   pub written_before :
       (old : List A) (at : ℕ) (out : List A) (i : ℕ) (d : A) → i < at → at ≤ length old → get_or (written old at out) i d ≡ get_or old i d
@@ -98,6 +103,11 @@ first_of_part {A} d l from (suc n) k =
     ap (λ (r : List A). r ++ get_or l (from + n) d ∷ []) (first_of_part d l from n (omega arith))
     ∙ ap (λ (v : A). take n (drop from l) ++ v ∷ []) (sym (get_or-drop from l n d))
     ∙ sym (take-suc (drop from l) n d (omega (arith, length-drop from l)))
+
+-- and its first words are what it begins with
+pub first_of_taken : {A : Type 0} (d : A) (l : List A) (n : ℕ) → n ≤ length l → first_of (λ (i : ℕ). get_or l i d) n ≡ take n l
+first_of_taken {A} d l n k =
+    sym (λ j. first_of (λ (i : ℕ). get_or l (zero-add i j) d) n) ∙ first_of_part d l 0 n (omega arith)
 
 -- the points at the places of a part of a table
 pub first_of_pick :

@@ -4,3 +4,5 @@ pub mod Writing
 pub mod Shapes
 pub mod Middles
 pub mod Threads
+-- rules only add to the book
+pub mod Growing

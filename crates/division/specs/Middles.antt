@@ -1,13 +1,13 @@
 -- The midpoints of an element's edges, as points behind its corners.
 -- Assumes nothing.
-use Rattle.std.specs.Prelude.{◌≡◌, List, ℕ, ◌<◌, length, take}
-use Rattle.geom.specs.Answers.{Ending, whole, stopped, EndsWith}
+use Rattle.std.specs.Prelude.{◌≡◌, List, ℕ, ◌<◌, length, take, Result}
+use Rattle.geom.specs.Answers.{EndsWith}
 use Rattle.geom.specs.Book.{Kind, Book, Made, mids}
 use Rattle.geom.specs.Elements.{pairs_of as edge_pairs}
+use Rattle.book.specs.declared.Full.{Full}
+use Rattle.book.specs.declared.Book.{Book as Held}
 use Rattle.book.specs.Cells.{pairs_of}
-use Rattle.book.specs.Answers.{Ready}
-use Rattle.division.specs.declared.elements.Grown.{Grown}
-use Rattle.division.specs.declared.elements.Grown.TheVariants.{Entries, Full}
+use Rattle.book.specs.Answers.{Ready, Beside, beside, ending_of}
 use Rattle.division.specs.Shapes.{edges_of}
 use Rattle.division.specs.Writing.{written}
 
@@ -21,11 +21,14 @@ pub record Middled (corners base room : ℕ) (points : List ℕ) (m : Made ℕ) 
   pub entries : pairs_of book e ≡ m.book
   pub list : after ≡ written points corners m.made
 
--- what `Grown` says: how many entries the book has, or refusal 10
-abbrev pub grown_of : Grown → Ending ℕ
-grown_of (Entries e) = whole e
-grown_of Full = stopped 10
-
 -- the midpoints, or that the book after is longer than the room
-abbrev pub Middle : ℕ → ℕ → ℕ → List ℕ → Made ℕ → List ℕ → List ℕ → Grown → Type 0
-Middle corners base room points m after book r = EndsWith (Middled corners base room points m after book) (room < length m.book) (grown_of r)
+abbrev pub Middle : ℕ → ℕ → ℕ → List ℕ → Made ℕ → List ℕ → List ℕ → Result ℕ Full → Type 0
+Middle corners base room points m after book r = EndsWith (Middled corners base room points m after book) (room < length m.book) (ending_of r)
+
+-- the same of a book that is handed in
+abbrev pub MiddleIn : ℕ → List ℕ → Made ℕ → List ℕ → Held → Held → Result (Unit {0}) Full → Type 0
+MiddleIn corners points m after b book r =
+    EndsWith
+    (λ (w : Beside (Unit {0})). Middled corners b.base b.room points m after book.cells.now w.made)
+    (b.room < length m.book)
+    (ending_of (beside r book.made))

@@ -1,6 +1,6 @@
 -- Curves in memory: the curve of a row, the words that are written for curves, and what a function answers that writes them.
 -- Assumes nothing.
-use Rattle.std.specs.Prelude.{◌≡◌, ◌⊎◌, List, [], ◌∷◌, ℕ, suc, ◌+◌, ◌*◌, ◌-◌, ◌^◌, ◌<◌, ◌≤◌, length, get_or}
+use Rattle.std.specs.Prelude.{◌≡◌, ◌⊎◌, List, [], ◌∷◌, ℕ, suc, ◌+◌, ◌*◌, ◌-◌, ◌^◌, ◌<◌, ◌≤◌, length, get_or, Result}
 use Rattle.geom.specs.declared.parity.Parity.{Parity}
 use Rattle.geom.specs.Answers.{EndsWith}
 use Rattle.geom.specs.Book.{Kind, Pair, Book, Made, mids}
@@ -9,12 +9,11 @@ use Rattle.geom.specs.Rules.{step_ends}
 use Rattle.geom.specs.Mesh.{curve_vertices_of}
 use Rattle.geom.specs.Memory.{first_of, curve_row, step_row, curves_of, parity_of, parity_word, curve_words, vertex_words, over}
 use Rattle.geom.specs.Refusals.{curve_lengths}
+use Rattle.book.specs.declared.Full.{Full}
+use Rattle.book.specs.declared.Book.{Book as Held}
 use Rattle.book.specs.Cells.{pairs_of}
-use Rattle.book.specs.Answers.{Ready}
-use Rattle.division.specs.declared.Written.{Written}
-use Rattle.division.specs.declared.elements.Grown.{Grown}
-use Rattle.division.specs.Writing.{written, Writes, written_of}
-use Rattle.division.specs.Middles.{grown_of}
+use Rattle.book.specs.Answers.{Ready, Beside, beside, ending_of}
+use Rattle.division.specs.Writing.{written}
 
 -- ---- the steps of a curve whose vertices begin at the row `from`
 
@@ -46,9 +45,12 @@ pub record Threads (base room from rows : ℕ) (words : List ℕ) (m : Made ℕ)
   pub entries : pairs_of book e ≡ m.book
   pub list : after ≡ written new (2 * rows) (quads (vertex_at words from) (parity_at words from) m.made)
 
-abbrev pub Threaded : ℕ → ℕ → ℕ → ℕ → List ℕ → Made ℕ → List ℕ → List ℕ → List ℕ → Grown → Type 0
-Threaded base room from rows words m new after book r =
-    EndsWith (Threads base room from rows words m new after book) (room < length m.book) (grown_of r)
+abbrev pub Threaded : ℕ → ℕ → List ℕ → Made ℕ → List ℕ → List ℕ → Held → Held → Result (Unit {0}) Full → Type 0
+Threaded from rows words m new after b book r =
+    EndsWith
+    (λ (w : Beside (Unit {0})). Threads b.base b.room from rows words m new after book.cells.now w.made)
+    (b.room < length m.book)
+    (ending_of (beside r book.made))
 
 -- ---- curves
 
@@ -72,6 +74,9 @@ pub record Spread (base room cells rows made : ℕ) (new book : List ℕ) : Type
   pub lent : 2 * cells ≤ length new
   pub small : cells < 2 ^ 32
 
+abbrev pub Spreads : ℕ → ℕ → List ℕ → Held → Type 0
+Spreads cells rows new b = Spread b.base b.room cells rows b.made new b.cells.now
+
 -- one curve's row and its vertices are written: r curve vertices and e entries afterwards
 pub record Strings (base room cells i rows : ℕ) (m : Made Curve) (new after vertices afterwards book : List ℕ) (r e : ℕ) : Type 0 where
   pub ready : Ready base room e book
@@ -82,12 +87,12 @@ pub record Strings (base room cells i rows : ℕ) (m : Made Curve) (new after ve
   pub list : after ≡ written new (2 * i) (curve_words m.made)
   pub strung : afterwards ≡ written vertices (2 * rows) (vertex_words m.made)
 
-abbrev pub Strung : ℕ → ℕ → ℕ → ℕ → ℕ → Made Curve → List ℕ → List ℕ → List ℕ → List ℕ → List ℕ → Written → Type 0
-Strung base room cells i rows m new after vertices afterwards book r =
+abbrev pub Strung : ℕ → ℕ → ℕ → Made Curve → List ℕ → List ℕ → List ℕ → List ℕ → Held → Held → Result ℕ Full → Type 0
+Strung cells i rows m new after vertices afterwards b book r =
     EndsWith
-    (λ (w : Writes). Strings base room cells i rows m new after vertices afterwards book w.rows w.made)
-    ((room < length m.book) ⊎ (cells < rows + curve_vertices_of m.made))
-    (written_of r)
+    (λ (w : Beside ℕ). Strings b.base b.room cells i rows m new after vertices afterwards book.cells.now w.value w.made)
+    ((b.room < length m.book) ⊎ (cells < rows + curve_vertices_of m.made))
+    (ending_of (beside r book.made))
 
 -- all curves: both lists are written from their slices' starts over what they held
 pub record Wound (base room cells : ℕ) (m : Made Curve) (new after vertices afterwards book : List ℕ) (r e : ℕ) : Type 0 where
@@ -99,9 +104,9 @@ pub record Wound (base room cells : ℕ) (m : Made Curve) (new after vertices af
   pub strung : afterwards ≡ over vertices (vertex_words m.made)
 
 -- the lists, or that the book after is longer than the room or the curve vertices more than their cells
-abbrev pub Curved : ℕ → ℕ → ℕ → Made Curve → List ℕ → List ℕ → List ℕ → List ℕ → List ℕ → Written → Type 0
-Curved base room cells m new after vertices afterwards book r =
+abbrev pub Curved : ℕ → Made Curve → List ℕ → List ℕ → List ℕ → List ℕ → Held → Held → Result ℕ Full → Type 0
+Curved cells m new after vertices afterwards b book r =
     EndsWith
-    (λ (w : Writes). Wound base room cells m new after vertices afterwards book w.rows w.made)
-    ((room < length m.book) ⊎ (cells < curve_vertices_of m.made))
-    (written_of r)
+    (λ (w : Beside ℕ). Wound b.base b.room cells m new after vertices afterwards book.cells.now w.value w.made)
+    ((b.room < length m.book) ⊎ (cells < curve_vertices_of m.made))
+    (ending_of (beside r book.made))

@@ -1,18 +1,20 @@
-// Document 01, sections 3 and 4: lines, by the rule of the kind.
+// Lines, by the rule of the kind: a line whose pair of ends is new becomes two, which meet in the pair's midpoint; of one whose pair is known
+// nothing stays.
 ghost use Rattle.std.specs.Prelude.{◌≡◌, suc, ◌*◌, ◌≤◌, length, map};
 ghost use Rattle.geom.specs.Book.{each};
 ghost use Rattle.geom.specs.Kinds.{kind_of};
 ghost use Rattle.geom.specs.Rules.{line as line_by};
 ghost use Rattle.geom.specs.Memory.{first_of, element_row, element_of};
-ghost use Rattle.book.specs.Cells.{pairs_of};
+ghost use Rattle.book.specs.Answers.{pairs_in, Kept};
 ghost use Rattle.division.specs.Shapes.{LINE_TABLE};
-ghost use Rattle.division.specs.Writing.{Begun, Extended, Passed};
+ghost use Rattle.division.specs.Writing.{Begins, Extended, Passed};
+ghost use Rattle.division.specs.Growing.{line_grows};
 
-use crate::Written;
-use crate::elements::{Filled, assemble, middle};
-use book::Asked;
+use crate::elements::{assemble, middle};
+use crate::rules::{RowRule, each_row};
+use book::{Book, Full};
 use geom::kind::Kind;
-use geom::words::parity_of;
+use geom::parity::Parity;
 
 // Line [a,b] with the vertex v at place 2: [a,v], [v,b] of the same parity.
 const LINE_PIECES: [usize; 6] = [0, 2, 0, 2, 1, 0];
@@ -27,85 +29,54 @@ fn line(
     new: &mut [u32],
     rows: usize,
     cells: usize,
-    book: &mut [u32],
-    made: usize,
-    room: usize,
-    base: usize,
-) -> Written
+    book: &mut Book,
+) -> Result<usize, Full>
     requires row_in_bounds { 3 * suc row ≤ length old.now }
     requires table_value { table.now ≡ LINE_TABLE }
-    requires begun { Begun 2 base room cells rows made new.old book.old }
-    ensures { Extended 2 base room cells rows (line_by (kind_of kind) base (pairs_of book.old made) (element_of (element_row 2 old.now row))) new.old new.new book.new result }
+    requires begun { Begins 2 cells rows new.old book.old }
+    ensures kept { Kept book.old book.new }
+    ensures extended { Extended 2 cells rows (line_by (kind_of kind) book.old.base (pairs_in book.old) (element_of (element_row 2 old.now row))) new.old new.new book.old book.new result }
 {
     let from = 3 * row;
     let a = old[from];
     let b = old[from + 1];
-    let parity = parity_of(old[from + 2]);
-    let asked = middle(kind, book, made, room, base, a, b);
-    let Asked::Vertex {
-        vertex,
-        made: entries,
-    } = asked
-    else {
-        return Written::Full;
-    };
-    if entries == made {
-        return Written::Rows {
-            rows,
-            made: entries,
-        };
+    let parity = Parity::from(old[from + 2]);
+    let made = book.made;
+    let vertex = middle(kind, book, a, b)?;
+    if book.made == made {
+        return Ok(rows);
     }
     let points = [a, b, vertex];
-    let filled = assemble(&points, 2, parity, table, &[], new, rows, cells);
-    let Filled::Rows(more) = filled else {
-        return Written::Full;
-    };
-    Written::Rows {
-        rows: more,
-        made: entries,
-    }
+    assemble(&points, 2, parity, table, &[], new, rows, cells)
 }
 
-// Lines in list order, by the table of their pieces, which is laid out once for all of them.
-fn lines_by(
+// The rule of lines, by the table of their pieces, which is laid out once for all of them.
+#[derive(Clone, Copy)]
+struct LineRule<'a> {
     kind: Kind,
-    old: &[u32],
-    count: usize,
-    table: &[usize],
-    new: &mut [u32],
-    cells: usize,
-    book: &mut [u32],
-    made: usize,
-    room: usize,
-    base: usize,
-) -> Written
-    requires count_in_bounds { 3 * count ≤ length old.now }
-    requires table_value { table.now ≡ LINE_TABLE }
-    requires begun { Begun 2 base room cells 0 made new.old book.old }
-    ensures { Passed base room cells (each (line_by (kind_of kind) base) (pairs_of book.old made) (map element_of (first_of (element_row 2 old.now) count))) new.old new.new book.new result }
-{
-    let mut rows = 0;
-    let mut entries = made;
-    let mut i = 0;
-    while i < count {
-        let written = line(
-            kind, old, i, table, new, rows, cells, book, entries, room, base,
-        );
-        let Written::Rows {
-            rows: more,
-            made: next,
-        } = written
-        else {
-            return Written::Full;
-        };
-        rows = more;
-        entries = next;
-        i += 1;
+    table: &'a [usize],
+}
+
+impl<'a> RowRule for LineRule<'a> {
+    ghost corners = { 2 };
+
+    ghost Stands = { λ s. s.table.now ≡ LINE_TABLE };
+
+    ghost makes = { λ s. line_by (kind_of s.kind) };
+
+    fn divide(
+        &self,
+        old: &[u32],
+        row: usize,
+        new: &mut [u32],
+        rows: usize,
+        cells: usize,
+        book: &mut Book,
+    ) -> Result<usize, Full> {
+        line(self.kind, old, row, self.table, new, rows, cells, book)
     }
-    Written::Rows {
-        rows,
-        made: entries,
-    }
+
+    ghost grows = { λ s. line_grows (kind_of s.kind) };
 }
 
 // Lines in list order.
@@ -115,25 +86,16 @@ pub fn lines(
     count: usize,
     new: &mut [u32],
     cells: usize,
-    book: &mut [u32],
-    made: usize,
-    room: usize,
-    base: usize,
-) -> Written
+    book: &mut Book,
+) -> Result<usize, Full>
     requires count_in_bounds { 3 * count ≤ length old.now }
-    requires begun { Begun 2 base room cells 0 made new.old book.old }
-    ensures { Passed base room cells (each (line_by (kind_of kind) base) (pairs_of book.old made) (map element_of (first_of (element_row 2 old.now) count))) new.old new.new book.new result }
+    requires begun { Begins 2 cells 0 new.old book.old }
+    ensures kept { Kept book.old book.new }
+    ensures passed { Passed cells (each (line_by (kind_of kind) book.old.base) (pairs_in book.old) (map element_of (first_of (element_row 2 old.now) count))) new.old new.new book.old book.new result }
 {
-    lines_by(
+    let rule = LineRule {
         kind,
-        old,
-        count,
-        &LINE_PIECES,
-        new,
-        cells,
-        book,
-        made,
-        room,
-        base,
-    )
+        table: &LINE_PIECES,
+    };
+    each_row(&rule, old, count, new, cells, book)
 }

@@ -1,100 +1,20 @@
 -- Curves, one after the other: the places where they begin, how many vertices they have, and what the loop that judges them knows.
 -- Assumes nothing.
 use mathlib.Core.Path.{◌≡◌, refl, sym, ◌∙◌, ap}
-use mathlib.Core.Bool.{false}
 use mathlib.Core.Logic.{◌⊎◌, inl, inr}
 use mathlib.Core.List.{List, [], ◌∷◌, ◌++◌}
-use Prim.Native.Nat.{ℕ, zero, suc, ◌+◌, ◌-◌, ◌*◌, ◌≤◌, ◌<◌}
+use Prim.Native.Nat.{ℕ, zero, suc, ◌+◌, ◌*◌, ◌≤◌, ◌<◌}
 use native.Mathlib.Nat.{eq-or-lt_of_le, add-zero, add_assoc}
 use native.Mathlib.Numerals.{add-one}
 use native.Mathlib.Omega.{arith}
-use lib.Dec.{eqb, leb}
 use lib.ListN.{length, drop}
-use borrow.Author.Tests.{le-leb, lt-leb, eq-eqb, ne_eqb}
 use Rattle.geom.specs.Elements.{Curve}
 use Rattle.geom.specs.Mesh.{curve_vertices_of}
 use Rattle.geom.specs.Refinement.{LIMIT}
 use Rattle.geom.specs.Memory.{first_of}
-use Rattle.geom.specs.File.{Read, Reader, read, stop, and_then, ◌>>=◌, done, judged, word, number, parity, several, curve_count, curve, curves}
-use Rattle.geom.proofs.Lists.{and_false}
+use Rattle.geom.specs.File.{Read, Reader, read, stop, and_then, ◌>>=◌, done, curve, curves}
 use Rattle.geom.proofs.Rows.{length_first_of}
-use Rattle.fields.specs.Fields.{word_at, numbers_at, parities_at, curve_at, curve_place, curves_at, Reads, Strung, Wound, WoundAll}
-
--- ---- a curve's vertex count
-
-positive : (v : ℕ) → (v ≡ 0 → ⊥) → 0 < v
-positive zero h = absurd (h refl)
-positive (suc v) h = omega arith
-
-module _ (bytes : List ℕ) (at x lent before : ℕ) (r : Reads bytes at (at + 4) x word) (v : ℕ) (e : v ≡ x) where
-  pub count_none : v ≡ 0 → curve_count lent before (drop at bytes) ≡ stop 8
-  unfolding curve_count judged
-  count_none h = rw (r.reads, eq-eqb x 0 (sym e ∙ h)) refl
-
-  module _ (some : v ≡ 0 → ⊥) where
-    none : eqb x 0 ≡ false
-    none = ne_eqb x 0 (λ z. some (e ∙ z))
-
-    pub count_above : lent < before + v → curve_count lent before (drop at bytes) ≡ stop 10
-    unfolding curve_count judged
-    count_above h = rw (r.reads, none, lt-leb (before + x) lent (omega arith)) refl
-
-    pub count_many : LIMIT < before + v → curve_count lent before (drop at bytes) ≡ stop 10
-    unfolding curve_count judged
-    count_many h = rw (r.reads, none, lt-leb (before + x) LIMIT (omega arith), and_false (leb (before + x) lent)) refl
-
-    pub count_on : before + v ≤ lent → before + v ≤ LIMIT → Strung bytes at x lent before v
-    unfolding curve_count judged
-    count_on h l =
-        record {
-          value = e;
-          reads =
-              record {
-                reads = rw (r.reads, none, le-leb (before + x) lent (omega arith), le-leb (before + x) LIMIT (omega arith)) refl;
-                stands = r.stands;
-              };
-          some = positive v some;
-          room = h;
-          few = l;
-        }
-
--- ---- a curve
-
-module _ (bytes : List ℕ) (at count lent before : ℕ) where
-  pub tag_stop : (n : ℕ) → word (drop at bytes) ≡ stop n → curve count lent before (drop at bytes) ≡ stop n
-  unfolding curve
-  tag_stop n e = rw e refl
-
-  module _ (t : Reads bytes at (at + 4) (word_at bytes at) word) where
-    pub count_stop : (n : ℕ) → curve_count lent before (drop (at + 4) bytes) ≡ stop n → curve count lent before (drop at bytes) ≡ stop n
-    unfolding curve
-    count_stop n e = rw (t.reads, e) refl
-
-    module _ (v : ℕ) (s : Strung bytes (at + 4) (word_at bytes (at + 4)) lent before v) where
-      s_read : curve_count lent before (drop (at + 4) bytes) ≡ read v (drop (at + 8) bytes)
-      s_read = let e : at + 4 + 4 ≡ at + 8 = omega arith in rw (← s.value, e) at s.reads.reads
-
-      pub vertices_stop : (n : ℕ) → several v (number count) (drop (at + 8) bytes) ≡ stop n → curve count lent before (drop at bytes) ≡ stop n
-      unfolding curve
-      vertices_stop n e = rw (t.reads, s_read, e) refl
-
-      module _ (vs : Reads bytes (at + 8) (at + 8 + 4 * v) (numbers_at bytes (at + 8) v) (several v (number count))) where
-        pub parities_stop : (n : ℕ) → several (v - 1) parity (drop (at + 8 + 4 * v) bytes) ≡ stop n → curve count lent before (drop at bytes) ≡ stop n
-        unfolding curve
-        parities_stop n e = rw (t.reads, s_read, vs.reads, e) refl
-
-        pub curve_read : Reads bytes (at + 8 + 4 * v) (at + 8 + 4 * v + (v - 1)) (parities_at bytes (at + 8 + 4 * v) (v - 1)) (several (v - 1) parity)
-            → Wound bytes at count lent before v
-        unfolding curve curve_at
-        curve_read ps =
-            let e : at + 8 + 4 * v + (v - 1) ≡ at + (5 * v + 7) = omega (arith, s.some) in
-            record {
-              value = s.value;
-              reads = record { reads = rw (t.reads, s_read, vs.reads, ps.reads, e, ← s.value) refl; stands = rw e at ps.stands };
-              some = s.some;
-              room = s.room;
-              few = s.few;
-            }
+use Rattle.fields.specs.Fields.{word_at, curve_at, curve_place, curves_at, Reads, Wound}
 
 -- ---- curves, the last read last
 
@@ -159,7 +79,6 @@ below_suc P i f p j h = go (eq-or-lt_of_le {n = j} {m = i} (omega arith))
 
 -- the first i curves were read; the next begins at `from`
 pub record Winding (bytes : List ℕ) (at n count lent from total i : ℕ) : Type 0 where
-  pub passed : i ≤ n
   pub place : from ≡ curve_place bytes at i
   pub sum : total ≡ curve_vertices_of (curves_at bytes at i)
   pub reads : Reads bytes at from (curves_at bytes at i) (curves count lent i 0)
@@ -173,7 +92,6 @@ module _ (bytes : List ℕ) (at n count lent : ℕ) where
   unfolding curves curve_place first_of curve_vertices_of
   winding_start h =
       record {
-        passed = omega arith;
         place = refl;
         sum = refl;
         reads = record { reads = refl; stands = h };
@@ -199,7 +117,6 @@ module _ (bytes : List ℕ) (at n count lent : ℕ) where
         let m : length (curve_at bytes (curve_place bytes at i)).vertices ≡ v = vertex_count bytes (curve_place bytes at i) ∙ sym (s.value ∙ ap (λ (p : ℕ). word_at bytes (p + 4)) w.place) in
         rw (add-one i)
         (record {
-          passed = omega arith;
           place = rw (← w.place, ← s.value) refl;
           sum = omega (arith, w.sum, vertices_snoc (curves_at bytes at i) (curve_at bytes (curve_place bytes at i)), m);
           reads = record { reads = next ∙ rw (s.reads.reads, e) refl; stands = s.reads.stands };
@@ -208,8 +125,3 @@ module _ (bytes : List ℕ) (at n count lent : ℕ) where
           room = s.room;
           few = s.few;
         })
-
-    pub winding_done : n ≤ i → WoundAll bytes at n count lent total
-    winding_done h =
-        let e : i ≡ n = omega (arith, w.passed) in
-        record { sum = rw e at w.sum; place = sym (w.end ∙ ap (λ (k : ℕ). at + (5 * total + 7 * k)) e) ∙ rw e at w.place; reads = rw (w.end, e) at w.reads; some = rw e at w.some; room = w.room }

@@ -1,5 +1,5 @@
+pub mod Refused
 pub mod Reading
 pub mod Several
-pub mod Vertices
 pub mod Curves
 pub mod Listing

@@ -8,9 +8,11 @@ use native.Mathlib.Nat.{eq-or-lt_of_le, mul-suc}
 use native.Mathlib.Numerals.{add-one}
 use native.Mathlib.Omega.{arith}
 use lib.ListN.{length, drop}
+use Rattle.std.specs.Prelude.{Result, Ok, Err}
 use Rattle.geom.specs.Memory.{first_of}
 use Rattle.geom.specs.File.{Read, Reader, read, stop, and_then, ◌>>=◌, done, several}
-use Rattle.fields.specs.Fields.{Reads}
+use Rattle.geom.specs.declared.refusal.Refusal.{Refusal}
+use Rattle.fields.specs.Fields.{Reads, Passes, Each}
 
 module _ {A : Type 0} (row : Reader A) where
   -- a row more behind those that were read
@@ -66,8 +68,28 @@ module _ {A : Type 0} (row : Reader A) where
     pub rows_off : (i n k : ℕ) → Rows i → i < n → row (drop (at + wide * i) bytes) ≡ stop k → several n row (drop at bytes) ≡ stop k
     rows_off i n k r h e = off i n k (drop at bytes) (several_snoc i (drop at bytes) ∙ rw (r.reads, e) refl) h
 
-    pub rows_done : (i n : ℕ) → i ≤ n → n ≤ i → Rows i → Rows n
-    rows_done i n h l r = let e : i ≡ n = omega arith in rw e at r
+-- what judges a row promises what the reader of a row reads
+abbrev pub Judges : {A : Type 0} → (ℕ → Result Unit Refusal → Type 0) → List ℕ → ℕ → (ℕ → A) → Reader A → Type 0
+Judges P bytes wide value row =
+    (p : ℕ) → p ≤ length bytes → (r : Result Unit Refusal) → P p r → Passes r bytes p (p + wide) (value p) row
+
+module _ {A : Type 0} (P : ℕ → Result Unit Refusal → Type 0) (bytes : List ℕ) (at wide : ℕ) (value : ℕ → A) (row : Reader A) (judges : Judges P bytes wide value row) (place : ℕ → ℕ) (placed : (i : ℕ) → place i ≡ at + wide * i) where
+  abbrev item : ℕ → A
+  item i = value (place i)
+
+  each_reads : (i : ℕ) → at ≤ length bytes → ((j : ℕ) → j < i → P (at + wide * j) (Ok tt)) → Rows row bytes at wide item i
+  each_reads zero h f = rows_start row bytes at wide item h
+  each_reads (suc i) h f =
+      let r = each_reads i h (λ j l. f j (omega arith)) in
+      let s : Reads bytes (at + wide * i) (at + wide * i + wide) (item i) row = rw (placed i) (judges (at + wide * i) r.stands (Ok tt) (f i (omega arith))) in
+      rw (← add-one i) (rows_on row bytes at wide item i r s)
+
+  -- rows that are judged one after the other are read one after the other
+  pub each_passes : (r : Result Unit Refusal) (n : ℕ) → at ≤ length bytes → Each P (length bytes) r at wide n
+      → Passes r bytes at (at + wide * n) (first_of item n) (several n row)
+  each_passes (Ok _) n h e = rw e.behind at (each_reads e.passed h e.rows)
+  each_passes (Err k) n h e =
+      rows_off row bytes at wide item e.passed n _ (each_reads e.passed h e.rows) e.behind.0 (judges (at + wide * e.passed) e.stands (Err k) e.behind.1)
 
 -- rows of one byte
 pub one : (i : ℕ) → 1 * i ≡ i

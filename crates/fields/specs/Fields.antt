@@ -1,19 +1,19 @@
 -- The fields and rows of a file by their places, as closed expressions over the bytes; and what a function answers that reads or judges them.
 -- Says nothing of what is right to read, which is geom's File. A place past the end counts as 0.
 -- Assumes nothing.
-use Rattle.std.specs.Prelude.{◌≡◌, List, ℕ, zero, suc, ◌+◌, ◌-◌, ◌*◌, ◌≤◌, ◌<◌, Float, length, get_or, drop}
+use Rattle.std.specs.Prelude.{◌≡◌, List, ℕ, zero, suc, ◌+◌, ◌-◌, ◌*◌, ◌≤◌, ◌<◌, Float, Result, Ok, Err, leb, length, get_or, drop}
 use Rattle.std.specs.Float.{binary32}
 use Rattle.std.specs.Float.Ieee.{of_bits}
-use Rattle.geom.specs.declared.answer.Ended.{Ended}
+use Rattle.geom.specs.declared.refusal.Refusal.{Refusal}
 use Rattle.geom.specs.declared.parity.Parity.{Parity}
 use Rattle.geom.specs.declared.vertex.Vertex.{Vertex}
+use Rattle.geom.specs.Answers.{number_of}
 use Rattle.geom.specs.Elements.{Element, Curve}
 use Rattle.geom.specs.Memory.{first_of, parity_of}
 use Rattle.geom.specs.Mesh.{curve_vertices_of}
 use Rattle.geom.specs.Refinement.{LIMIT}
 use Rattle.geom.specs.Refusals.{good_flags}
 use Rattle.geom.specs.File.{read, stop, Reader, ◌>>=◌, judged, byte, counted, curve_count, curve, curves}
-use Rattle.fields.specs.declared.field.Field.{Field}
 
 -- ---- by places
 
@@ -83,6 +83,12 @@ curve_place bytes at (suc i) = let from = curve_place bytes at i in from + (5 * 
 abbrev pub curves_at : List ℕ → ℕ → ℕ → List Curve
 curves_at bytes at n = first_of (λ (i : ℕ). curve_at bytes (curve_place bytes at i)) n
 
+-- a byte of at most a number
+unfoldable pub mark_field : ℕ → Reader ℕ
+mark_field most = do
+  b ← byte
+  judged 5 (leb b most) b
+
 -- the flag byte of a vertex
 unfoldable pub flags_field : Reader ℕ
 flags_field = do
@@ -97,14 +103,26 @@ pub record Reads {A : Type 0} (bytes : List ℕ) (at end : ℕ) (x : A) (reader 
   pub stands : end ≤ length bytes
 
 -- a field's value x, or the number by which the reader stops
-abbrev pub Gives : Field → List ℕ → ℕ → ℕ → ℕ → Reader ℕ → Type 0
-Gives (Field.Value v) bytes at end x reader = (v ≡ x) × Reads bytes at end x reader
-Gives (Field.Refused n) bytes at end x reader = reader (drop at bytes) ≡ stop n
+abbrev pub Gives : Result ℕ Refusal → List ℕ → ℕ → ℕ → ℕ → Reader ℕ → Type 0
+Gives (Ok v) bytes at end x reader = (v ≡ x) × Reads bytes at end x reader
+Gives (Err r) bytes at end x reader = reader (drop at bytes) ≡ stop (number_of r)
 
 -- what is judged is passed, or the reader stops with the number
-abbrev pub Passes : {A : Type 0} → Ended → List ℕ → ℕ → ℕ → A → Reader A → Type 0
-Passes Ended.Finished bytes at end x reader = Reads bytes at end x reader
-Passes (Ended.Refused n) bytes at end x reader = reader (drop at bytes) ≡ stop n
+abbrev pub Passes : {A : Type 0} → Result Unit Refusal → List ℕ → ℕ → ℕ → A → Reader A → Type 0
+Passes (Ok _) bytes at end x reader = Reads bytes at end x reader
+Passes (Err r) bytes at end x reader = reader (drop at bytes) ≡ stop (number_of r)
+
+-- what comes behind the rows that were passed: there is none, or it is refused; P is what judging a row at a place promises
+abbrev pub Behind : (ℕ → Result Unit Refusal → Type 0) → Result Unit Refusal → ℕ → ℕ → ℕ → Type 0
+Behind P (Ok _) at passed n = passed ≡ n
+Behind P (Err r) at passed n = (passed < n) × P at (Err r)
+
+-- rows of one width are judged one after the other, within a file of some length
+pub record Each (P : ℕ → Result Unit Refusal → Type 0) (len : ℕ) (r : Result Unit Refusal) (at wide n : ℕ) : Type 0 where
+  pub passed : ℕ
+  pub stands : at + wide * passed ≤ len
+  pub rows : (i : ℕ) → i < passed → P (at + wide * i) (Ok tt)
+  pub behind : Behind P r (at + wide * passed) passed n
 
 -- a count that fits the lent cells, or the number by which the reader stops
 pub record Counted (bytes : List ℕ) (at lent v : ℕ) : Type 0 where
@@ -112,9 +130,9 @@ pub record Counted (bytes : List ℕ) (at lent v : ℕ) : Type 0 where
   pub reads : Reads bytes at (at + 4) v (counted lent)
   pub room : v ≤ lent
 
-abbrev pub Counts : Field → List ℕ → ℕ → ℕ → Type 0
-Counts (Field.Value v) bytes at lent = Counted bytes at lent v
-Counts (Field.Refused n) bytes at lent = counted lent (drop at bytes) ≡ stop n
+abbrev pub Counts : Result ℕ Refusal → List ℕ → ℕ → ℕ → Type 0
+Counts (Ok v) bytes at lent = Counted bytes at lent v
+Counts (Err r) bytes at lent = counted lent (drop at bytes) ≡ stop (number_of r)
 
 -- a curve's vertex count, behind `before` others
 pub record Strung (bytes : List ℕ) (at x lent before v : ℕ) : Type 0 where
@@ -124,9 +142,9 @@ pub record Strung (bytes : List ℕ) (at x lent before v : ℕ) : Type 0 where
   pub room : before + v ≤ lent
   pub few : before + v ≤ LIMIT
 
-abbrev pub Strings : Field → List ℕ → ℕ → ℕ → ℕ → Type 0
-Strings (Field.Value v) bytes at lent before = Strung bytes at (word_at bytes at) lent before v
-Strings (Field.Refused n) bytes at lent before = curve_count lent before (drop at bytes) ≡ stop n
+abbrev pub Strings : Result ℕ Refusal → List ℕ → ℕ → ℕ → ℕ → Type 0
+Strings (Ok v) bytes at lent before = Strung bytes at (word_at bytes at) lent before v
+Strings (Err r) bytes at lent before = curve_count lent before (drop at bytes) ≡ stop (number_of r)
 
 -- a curve of v vertices, behind `before` others
 pub record Wound (bytes : List ℕ) (at count lent before v : ℕ) : Type 0 where
@@ -136,9 +154,9 @@ pub record Wound (bytes : List ℕ) (at count lent before v : ℕ) : Type 0 wher
   pub room : before + v ≤ lent
   pub few : before + v ≤ LIMIT
 
-abbrev pub Winds : Field → List ℕ → ℕ → ℕ → ℕ → ℕ → Type 0
-Winds (Field.Value v) bytes at count lent before = Wound bytes at count lent before v
-Winds (Field.Refused n) bytes at count lent before = curve count lent before (drop at bytes) ≡ stop n
+abbrev pub Winds : Result ℕ Refusal → List ℕ → ℕ → ℕ → ℕ → ℕ → Type 0
+Winds (Ok v) bytes at count lent before = Wound bytes at count lent before v
+Winds (Err r) bytes at count lent before = curve count lent before (drop at bytes) ≡ stop (number_of r)
 
 -- n curves with v vertices in all
 pub record WoundAll (bytes : List ℕ) (at n count lent v : ℕ) : Type 0 where
@@ -148,6 +166,6 @@ pub record WoundAll (bytes : List ℕ) (at n count lent v : ℕ) : Type 0 where
   pub some : (i : ℕ) → i < n → 0 < word_at bytes (curve_place bytes at i + 4)
   pub room : v ≤ lent
 
-abbrev pub WindAll : Field → List ℕ → ℕ → ℕ → ℕ → ℕ → Type 0
-WindAll (Field.Value v) bytes at n count lent = WoundAll bytes at n count lent v
-WindAll (Field.Refused k) bytes at n count lent = curves count lent n 0 (drop at bytes) ≡ stop k
+abbrev pub WindAll : Result ℕ Refusal → List ℕ → ℕ → ℕ → ℕ → ℕ → Type 0
+WindAll (Ok v) bytes at n count lent = WoundAll bytes at n count lent v
+WindAll (Err r) bytes at n count lent = curves count lent n 0 (drop at bytes) ≡ stop (number_of r)

@@ -1,4 +1,4 @@
-// Document 01, section 8: the fields and rows of a file, each read whole and then judged, one after the other. Nothing is written.
+// The fields and rows of a file, each read whole and then judged, one after the other. Nothing is written.
 #![tactic(auto)]
 
 pub mod field;

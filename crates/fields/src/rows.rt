@@ -1,269 +1,193 @@
-// Document 01, section 8: the rows of the lists of a file, judged. Each function ends with the first refusal, or has passed what it names.
-ghost use Rattle.std.specs.Prelude.{◌+◌, ◌*◌, ◌≤◌, length, get_or};
+// The rows of the lists of a file, judged. Each function ends with the first refusal, or has passed what it names.
+ghost use Rattle.std.specs.Prelude.{ℕ, ◌+◌, ◌*◌, ◌≤◌, length, get_or, Ok};
 ghost use Rattle.geom.specs.File as File;
 ghost use Rattle.geom.specs.Refinement.{LIMIT};
-ghost use Rattle.fields.specs.Fields.{flags_field, word_at, coordinate_at, vertex_at, vertices_at, parity_at, numbers_at, parities_at, wide, element_at, elements_at, Passes, Counts, Strings, Winds, WindAll};
+ghost use Rattle.fields.specs.Fields.{mark_field, flags_field, word_at, coordinate_at, vertex_at, parity_at, numbers_at, parities_at, wide, element_at, Passes, Each, Counts, Strings, Winds, WindAll};
 
-use crate::field::{Field, byte_at, float_of, word_at};
-use geom::answer::Ended;
+use crate::field::{byte_at, float_of, word_at};
+use geom::refusal::Refusal;
+use judge::counts::LIMIT;
 use judge::words::coordinate_holds;
 
 // A tag or k: any word.
-pub fn carried(file: &[u8], at: usize) -> Ended
+pub fn carried(file: &[u8], at: usize) -> Result<(), Refusal>
     ensures { Passes result file.now at (at + 4) (word_at file.now at) File.word }
 {
-    match word_at(file, at) {
-        Field::Value(_) => Ended::Finished,
-        Field::Refused(n) => Ended::Refused(n),
-    }
+    word_at(file, at)?;
+    Ok(())
 }
 
 // 6: finite, from -1,024 to 1,024.
-pub fn coordinate(file: &[u8], at: usize) -> Ended
+#[tactic(auto, unfolding(geom::specs::File::coordinate, geom::specs::File::judged))]
+pub fn coordinate(file: &[u8], at: usize) -> Result<(), Refusal>
     ensures { Passes result file.now at (at + 4) (coordinate_at file.now at) File.coordinate }
 {
-    match word_at(file, at) {
-        Field::Value(pattern) => {
-            if coordinate_holds(float_of(pattern)) {
-                return Ended::Finished;
-            }
-            Ended::Refused(6)
-        }
-        Field::Refused(n) => Ended::Refused(n),
+    let pattern = word_at(file, at)?;
+    if coordinate_holds(float_of(pattern)) {
+        return Ok(());
     }
+    Err(Refusal::Coordinate)
 }
 
 // 7: a vertex number below the count.
-pub fn number(file: &[u8], at: usize, count: usize) -> Ended
+#[tactic(auto, unfolding(geom::specs::File::number, geom::specs::File::judged, geom::specs::Refusals::good_number))]
+pub fn number(file: &[u8], at: usize, count: usize) -> Result<(), Refusal>
     ensures { Passes result file.now at (at + 4) (word_at file.now at) (File.number count) }
 {
-    match word_at(file, at) {
-        Field::Value(vertex) => {
-            if (vertex as usize) < count {
-                return Ended::Finished;
-            }
-            Ended::Refused(7)
-        }
-        Field::Refused(n) => Ended::Refused(n),
+    let vertex = word_at(file, at)?;
+    if (vertex as usize) < count {
+        return Ok(());
     }
+    Err(Refusal::Number)
+}
+
+// 5: a byte of at most a number.
+#[tactic(auto, unfolding(crate::specs::Fields::mark_field, geom::specs::File::judged))]
+fn mark(file: &[u8], at: usize, most: u32) -> Result<(), Refusal>
+    ensures { Passes result file.now at (at + 1) (get_or file.now at 0) (mark_field most) }
+{
+    let mark = byte_at(file, at)?;
+    if most < mark {
+        return Err(Refusal::Mark);
+    }
+    Ok(())
 }
 
 // 5: a parity byte of at most 1.
-pub fn parity(file: &[u8], at: usize) -> Ended
+#[tactic(auto, unfolding(geom::specs::File::parity, geom::specs::File::judged, geom::specs::Refusals::good_parity, crate::specs::Fields::mark_field))]
+pub fn parity(file: &[u8], at: usize) -> Result<(), Refusal>
     ensures { Passes result file.now at (at + 1) (parity_at file.now at) File.parity }
 {
-    match byte_at(file, at) {
-        Field::Value(p) => {
-            if 1 < p {
-                return Ended::Refused(5);
-            }
-            Ended::Finished
-        }
-        Field::Refused(n) => Ended::Refused(n),
-    }
-}
-
-// 10: a count against the lent cells and the limit, before its entries.
-pub fn counted(file: &[u8], at: usize, lent: usize) -> Field
-    ensures { Counts result file.now at lent }
-{
-    let field = word_at(file, at);
-    let Field::Value(n) = field else {
-        return field;
-    };
-    if lent < n as usize {
-        return Field::Refused(10);
-    }
-    if 1_048_576 < n {
-        return Field::Refused(10);
-    }
-    field
+    mark(file, at, 1)
 }
 
 // 5: a flag byte of at most 15.
-pub fn flags(file: &[u8], at: usize) -> Ended
+#[tactic(auto, unfolding(crate::specs::Fields::flags_field, crate::specs::Fields::mark_field, geom::specs::Refusals::good_flags))]
+pub fn flags(file: &[u8], at: usize) -> Result<(), Refusal>
     ensures { Passes result file.now at (at + 1) (get_or file.now at 0) flags_field }
 {
-    match byte_at(file, at) {
-        Field::Value(flags) => {
-            if 15 < flags {
-                return Ended::Refused(5);
-            }
-            Ended::Finished
-        }
-        Field::Refused(n) => Ended::Refused(n),
+    mark(file, at, 15)
+}
+
+// 10: a count against the lent cells and the limit, before its entries.
+#[tactic(auto, unfolding(geom::specs::File::counted, geom::specs::File::judged))]
+pub fn counted(file: &[u8], at: usize, lent: usize) -> Result<u32, Refusal>
+    ensures { Counts result file.now at lent }
+{
+    let n = word_at(file, at)?;
+    if lent.min(LIMIT) < n as usize {
+        return Err(Refusal::Room);
     }
+    Ok(n)
 }
 
 // Vertex: four 4-byte bit patterns, flag byte, tag, k.
-pub fn vertex(file: &[u8], at: usize) -> Ended
+#[tactic(auto, unfolding(geom::specs::File::vertex, crate::specs::Fields::vertex_at, crate::specs::Fields::flags_field))]
+pub fn vertex(file: &[u8], at: usize) -> Result<(), Refusal>
     ensures { Passes result file.now at (at + 25) (vertex_at file.now at) File.vertex }
 {
-    let x = coordinate(file, at);
-    let Ended::Finished = x else {
-        return x;
-    };
-    let y = coordinate(file, at + 4);
-    let Ended::Finished = y else {
-        return y;
-    };
-    let z = coordinate(file, at + 8);
-    let Ended::Finished = z else {
-        return z;
-    };
-    let w = coordinate(file, at + 12);
-    let Ended::Finished = w else {
-        return w;
-    };
-    let marked = flags(file, at + 16);
-    let Ended::Finished = marked else {
-        return marked;
-    };
-    let tag = carried(file, at + 17);
-    let Ended::Finished = tag else {
-        return tag;
-    };
+    coordinate(file, at)?;
+    coordinate(file, at + 4)?;
+    coordinate(file, at + 8)?;
+    coordinate(file, at + 12)?;
+    flags(file, at + 16)?;
+    carried(file, at + 17)?;
     carried(file, at + 21)
 }
 
+// Rows of one width, one after the other, each judged at its place.
+pub fn several<F: Fn(usize) -> Result<(), Refusal>>(
+    file: &[u8],
+    at: usize,
+    wide: usize,
+    n: usize,
+    row: F,
+) -> Result<(), Refusal>
+    requires begins { at ≤ length file.now }
+    requires judges { (p : ℕ) → p ≤ length file.now → F.pre row p }
+    requires stands { (p : ℕ) → p ≤ length file.now → F.post row p (Ok tt) → p + wide ≤ length file.now }
+    ensures { Each (F.post row) (length file.now) result at wide n }
+{
+    for i in 0..n {
+        row(at + wide * i)?;
+    }
+    Ok(())
+}
+
 // Vertex numbers, one after the other: points, an element's corners, a curve's vertices.
-pub fn numbers(file: &[u8], at: usize, n: usize, count: usize) -> Ended
+pub fn numbers(file: &[u8], at: usize, n: usize, count: usize) -> Result<(), Refusal>
     requires { at ≤ length file.now }
     ensures { Passes result file.now at (at + 4 * n) (numbers_at file.now at n) (File.several n (File.number count)) }
 {
-    let mut i: usize = 0;
-    while i < n {
-        let ended = number(file, at + 4 * i, count);
-        let Ended::Finished = ended else {
-            return ended;
-        };
-        i += 1;
-    }
-    Ended::Finished
+    several(file, at, 4, n, |place| number(file, place, count))
 }
 
 // Parities, one after the other: those of a curve's steps.
-pub fn parities(file: &[u8], at: usize, n: usize) -> Ended
+pub fn parities(file: &[u8], at: usize, n: usize) -> Result<(), Refusal>
     requires { at ≤ length file.now }
     ensures { Passes result file.now at (at + n) (parities_at file.now at n) (File.several n File.parity) }
 {
-    let mut i: usize = 0;
-    while i < n {
-        let ended = parity(file, at + i);
-        let Ended::Finished = ended else {
-            return ended;
-        };
-        i += 1;
-    }
-    Ended::Finished
+    several(file, at, 1, n, |place| parity(file, place))
 }
 
 // Element: vertex numbers, parity byte.
-pub fn element(file: &[u8], at: usize, corners: usize, count: usize) -> Ended
+#[tactic(auto, unfolding(geom::specs::File::element, crate::specs::Fields::element_at))]
+pub fn element(file: &[u8], at: usize, corners: usize, count: usize) -> Result<(), Refusal>
     requires { at ≤ length file.now }
     ensures { Passes result file.now at (at + wide corners) (element_at corners file.now at) (File.element count corners) }
 {
-    let ended = numbers(file, at, corners, count);
-    let Ended::Finished = ended else {
-        return ended;
-    };
+    numbers(file, at, corners, count)?;
     parity(file, at + 4 * corners)
 }
 
-// The vertices, one after the other.
-pub fn vertices(file: &[u8], at: usize, n: usize) -> Ended
-    requires { at ≤ length file.now }
-    ensures { Passes result file.now at (at + 25 * n) (vertices_at file.now at n) (File.several n File.vertex) }
-{
-    let mut i: usize = 0;
-    while i < n {
-        let ended = vertex(file, at + 25 * i);
-        let Ended::Finished = ended else {
-            return ended;
-        };
-        i += 1;
-    }
-    Ended::Finished
-}
-
-// The elements of a list, one after the other.
-pub fn elements(file: &[u8], at: usize, n: usize, corners: usize, count: usize) -> Ended
-    requires { (at ≤ length file.now) × (corners ≤ 8) }
-    ensures { Passes result file.now at (at + wide corners * n) (elements_at corners file.now at n) (File.several n (File.element count corners)) }
-{
-    let wide = 4 * corners + 1;
-    let mut i: usize = 0;
-    while i < n {
-        let ended = element(file, at + wide * i, corners, count);
-        let Ended::Finished = ended else {
-            return ended;
-        };
-        i += 1;
-    }
-    Ended::Finished
-}
-
 // A curve's vertex count: 0 is 8; else 10 is judged, on the total over all curves so far, which may be more than 32 bits.
-pub fn curve_count(file: &[u8], at: usize, lent: usize, before: usize) -> Field
+#[tactic(auto, unfolding(geom::specs::File::curve_count, geom::specs::File::judged))]
+pub fn curve_count(file: &[u8], at: usize, lent: usize, before: usize) -> Result<u32, Refusal>
     requires { before ≤ LIMIT }
     ensures { Strings result file.now at lent before }
 {
-    let field = word_at(file, at);
-    let Field::Value(n) = field else {
-        return field;
-    };
+    let n = word_at(file, at)?;
     if n == 0 {
-        return Field::Refused(8);
+        return Err(Refusal::Curve);
     }
     let total = before + n as usize;
-    if lent < total {
-        return Field::Refused(10);
+    if lent.min(LIMIT) < total {
+        return Err(Refusal::Room);
     }
-    if 1_048_576 < total {
-        return Field::Refused(10);
-    }
-    field
+    Ok(n)
 }
 
 // Curve: tag, vertex count, vertices, one parity fewer. The value is the vertex count.
-pub fn curve(file: &[u8], at: usize, count: usize, lent: usize, before: usize) -> Field
+#[tactic(auto, unfolding(geom::specs::File::curve, crate::specs::Fields::curve_at))]
+pub fn curve(
+    file: &[u8],
+    at: usize,
+    count: usize,
+    lent: usize,
+    before: usize,
+) -> Result<u32, Refusal>
     requires { before ≤ LIMIT }
     ensures { Winds result file.now at count lent before }
 {
-    let tag = word_at(file, at);
-    let Field::Value(_) = tag else {
-        return tag;
-    };
-    let field = curve_count(file, at + 4, lent, before);
-    let Field::Value(some) = field else {
-        return field;
-    };
+    carried(file, at)?;
+    let some = curve_count(file, at + 4, lent, before)?;
     let n = some as usize;
-    match numbers(file, at + 8, n, count) {
-        Ended::Refused(k) => Field::Refused(k),
-        Ended::Finished => match parities(file, at + 8 + 4 * n, n - 1) {
-            Ended::Refused(k) => Field::Refused(k),
-            Ended::Finished => field,
-        },
-    }
+    numbers(file, at + 8, n, count)?;
+    parities(file, at + 8 + 4 * n, n - 1)?;
+    Ok(some)
 }
 
 // The curves, one after the other. The value is the number of their vertices.
-pub fn curves(file: &[u8], at: usize, n: usize, count: usize, lent: usize) -> Field
+pub fn curves(file: &[u8], at: usize, n: usize, count: usize, lent: usize) -> Result<u32, Refusal>
     requires { at ≤ length file.now }
     ensures { WindAll result file.now at n count lent }
 {
     let mut from = at;
-    let mut total: usize = 0;
-    let mut i: usize = 0;
-    while i < n {
-        let field = curve(file, from, count, lent, total);
-        let Field::Value(some) = field else {
-            return field;
-        };
-        total += some as usize;
+    let mut total: u32 = 0;
+    for i in 0..n {
+        let some = curve(file, from, count, lent, total as usize)?;
+        total += some;
         from += 5 * (some as usize) + 7;
-        i += 1;
     }
-    Field::Value(total as u32)
+    Ok(total)
 }

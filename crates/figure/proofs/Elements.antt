@@ -2,7 +2,7 @@
 -- Assumes nothing.
 use mathlib.Core.Path.{◌≡◌, refl, sym, ◌∙◌, ap}
 use mathlib.Core.List.{List, [], ◌∷◌, flat_map}
-use Prim.Native.Nat.{ℕ, zero, suc, ◌+◌, ◌*◌, ◌≤◌, ◌<◌}
+use Prim.Native.Nat.{ℕ, suc, ◌+◌, ◌*◌, ◌≤◌, ◌<◌}
 use native.Mathlib.Nat.{mul-suc, mul-le-mul_left}
 use native.Mathlib.Numerals.{add-one}
 use native.Mathlib.Omega.{arith}
@@ -11,7 +11,7 @@ use lib.ListN.{length, set, length-append}
 use lib.Seq.{sets, length-sets}
 use Rattle.geom.specs.declared.vertex.Vertex.{Vertex}
 use Rattle.geom.specs.Elements.{Element}
-use Rattle.geom.specs.Memory.{first_of, parity_of, parity_word, element_words, over}
+use Rattle.geom.specs.Memory.{first_of, parity_word, element_words, over}
 use Rattle.geom.proofs.Rows.{length_first_of}
 use Rattle.vertices.specs.Cells.{position_words, mark_words, positions_words, marks_words, Stand, Laid, Over}
 use Rattle.vertices.proofs.Written.{sets_over, length_flat}
@@ -30,29 +30,24 @@ module _ (bytes : List ℕ) (at : ℕ) where
 
   -- the first i numbers were written, from a word on
   pub record Numbers (l now : List ℕ) (from n i : ℕ) : Type 0 where
-    pub passed : i ≤ n
     pub words : now ≡ sets l from (numbers_at bytes at i)
 
   pub numbers_start : (l : List ℕ) (from n : ℕ) → Numbers l l from n 0
   unfolding first_of
-  numbers_start l from n = record { passed = omega arith; words = refl }
+  numbers_start l from n = record { words = refl }
 
   module _ (l now : List ℕ) (from n i : ℕ) (s : Numbers l now from n i) where
     pub numbers_length : length now ≡ length l
     numbers_length = ap length s.words ∙ length-sets l from (numbers_at bytes at i)
 
-    pub numbers_on : i < n → Numbers l (set now (from + i) (number_at i)) from n (i + 1)
-    numbers_on h = record { passed = omega arith; words = word_more l now number_at from i s.words }
+    pub numbers_on : Numbers l (set now (from + i) (number_at i)) from n (i + 1)
+    numbers_on = record { words = word_more l now number_at from i s.words }
 
-    pub numbers_done : n ≤ i → now ≡ sets l from (numbers_at bytes at n)
-    numbers_done h = let q : i ≡ n = omega (arith, s.passed) in rw q at s.words
+    pub numbers_done : i ≤ n → n ≤ i → now ≡ sets l from (numbers_at bytes at n)
+    numbers_done k h = let q : i ≡ n = omega arith in rw q at s.words
 
   pub numbers_over : (l : List ℕ) (n : ℕ) → n ≤ length l → sets l 0 (numbers_at bytes at n) ≡ over l (numbers_at bytes at n)
   numbers_over l n h = sets_over l (numbers_at bytes at n) (omega (arith, many n))
-
-pub odd_word : (b : ℕ) → (b ≡ 0 → ⊥) → 1 ≡ parity_word (parity_of b)
-odd_word zero h = absurd (h refl)
-odd_word (suc b) h = refl
 
 -- ---- elements
 
@@ -77,32 +72,30 @@ module _ (bytes : List ℕ) (at corners : ℕ) where
 
   -- the first i elements were written
   pub record Elements (l now : List ℕ) (n i : ℕ) : Type 0 where
-    pub passed : i ≤ n
     pub words : now ≡ sets l 0 (flat_map row_words (first_of item i))
 
   pub elements_start : (l : List ℕ) (n : ℕ) → Elements l l n 0
   unfolding first_of flat_map
-  elements_start l n = record { passed = omega arith; words = refl }
+  elements_start l n = record { words = refl }
 
   module _ (l now : List ℕ) (n i : ℕ) (e : Elements l now n i) where
     pub elements_length : length now ≡ length l
     elements_length = ap length e.words ∙ length-sets l 0 (flat_map row_words (first_of item i))
 
-    pub elements_on : (now' : List ℕ) → i < n → now' ≡ sets now ((corners + 1) * i) (row_words (item i)) → Elements l now' n (i + 1)
-    elements_on now' h q =
+    pub elements_on : (now' : List ℕ) → now' ≡ sets now ((corners + 1) * i) (row_words (item i)) → Elements l now' n (i + 1)
+    elements_on now' q =
         let m = flat_length row_words item (suc corners) (λ i. row_length bytes (at + wide corners * i) corners) i in
         record {
-          passed = omega arith;
           words =
               q
               ∙ row_more row_words item l now 0 i ((corners + 1) * i) e.words
               (ap (λ (k : ℕ). k * i) (add-one corners) ∙ omega (arith, m));
         }
 
-    pub elements_done : n ≤ i → suc corners * n ≤ length l → now ≡ over l (element_words (elements_at corners bytes at n))
+    pub elements_done : i ≤ n → n ≤ i → suc corners * n ≤ length l → now ≡ over l (element_words (elements_at corners bytes at n))
     unfolding element_words
-    elements_done h room =
-        let q : i ≡ n = omega (arith, e.passed) in
+    elements_done k h room =
+        let q : i ≡ n = omega arith in
         let m = flat_length row_words item (suc corners) (λ i. row_length bytes (at + wide corners * i) corners) n in
         rw q at e.words ∙ sets_over l (flat_map row_words (first_of item n)) (omega (arith, m))
 

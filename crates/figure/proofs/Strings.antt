@@ -67,30 +67,28 @@ module _ (bytes : List ℕ) (at count : ℕ) where
 
   -- the first j vertices were written, from a row on
   pub record Stepping (l now : List ℕ) (from j : ℕ) : Type 0 where
-    pub passed : j ≤ count
     pub words : now ≡ sets l (2 * from) (flat_map (step_row_at bytes at count) (first_of self j))
 
   pub stepping_start : (l : List ℕ) (from : ℕ) → Stepping l l from 0
   unfolding first_of flat_map
-  stepping_start l from = record { passed = omega arith; words = refl }
+  stepping_start l from = record { words = refl }
 
   module _ (l now : List ℕ) (from j : ℕ) (s : Stepping l now from j) where
     pub stepping_length : length now ≡ length l
     stepping_length = ap length s.words ∙ length-sets l (2 * from) (flat_map (step_row_at bytes at count) (first_of self j))
 
-    pub stepping_on : (a b : ℕ) → j < count → a ≡ word_at bytes (at + 4 * j) → b ≡ step_word bytes at count j
+    pub stepping_on : (a b : ℕ) → a ≡ word_at bytes (at + 4 * j) → b ≡ step_word bytes at count j
         → Stepping l (set (set now (2 * (from + j)) a) (2 * (from + j) + 1) b) from (j + 1)
-    stepping_on a b h ea eb =
+    stepping_on a b ea eb =
         record {
-          passed = omega arith;
           words =
               rw (add-one (2 * (from + j)), ea, eb)
               (row_more (step_row_at bytes at count) self l now (2 * from) j (2 * (from + j)) s.words
               (omega (arith, flat_length (step_row_at bytes at count) self 2 (λ i. refl) j)));
         }
 
-    pub stepping_done : count ≤ j → 0 < count → now ≡ sets l (2 * from) (steps_at bytes at count)
-    stepping_done h some = let q : j ≡ count = omega (arith, s.passed) in (rw q at s.words) ∙ ap (sets l (2 * from)) (steps_all bytes at count some)
+    pub stepping_done : j ≤ count → count ≤ j → 0 < count → now ≡ sets l (2 * from) (steps_at bytes at count)
+    stepping_done k h some = let q : j ≡ count = omega arith in (rw q at s.words) ∙ ap (sets l (2 * from)) (steps_all bytes at count some)
 
 -- ---- a curve
 
@@ -157,7 +155,6 @@ module _ (bytes : List ℕ) (at : ℕ) where
 
   -- the first i curves were written; the next begins at a place, and its vertices at a row
   pub record Stringing (l m now then : List ℕ) (n i p f : ℕ) : Type 0 where
-    pub passed : i ≤ n
     pub place : p ≡ curve_place bytes at i
     pub total : f ≡ curve_vertices_of (curves_at bytes at i)
     pub rows : now ≡ sets l 0 (flat_map row_of (first_of item i))
@@ -165,7 +162,7 @@ module _ (bytes : List ℕ) (at : ℕ) where
 
   pub stringing_start : (curves steps : List ℕ) (n : ℕ) → Stringing curves steps curves steps n 0 at 0
   unfolding first_of flat_map curve_place curve_vertices_of
-  stringing_start curves steps n = record { passed = omega arith; place = refl; total = refl; rows = refl; words = refl }
+  stringing_start curves steps n = record { place = refl; total = refl; rows = refl; words = refl }
 
   module _ (curves steps now words : List ℕ) (n i place from : ℕ) (s : Stringing curves steps now words n i place from) where
     pub stringing_rows : length now ≡ length curves
@@ -190,15 +187,14 @@ module _ (bytes : List ℕ) (at : ℕ) where
             room = omega (arith, stringing_words, c.room, most, vertices_snoc (curves_at bytes at i) (item i), k, s.total);
           })
 
-      pub stringing_on : (r : ℕ) (now' words' : List ℕ) → i < n → Wind bytes place now words i from r now' words'
+      pub stringing_on : (r : ℕ) (now' words' : List ℕ) → Wind bytes place now words i from r now' words'
           → Stringing curves steps now' words' n (i + 1) (place + (5 * r + 7)) (from + r)
       unfolding curve_place first_of
-      stringing_on r now' words' h w =
+      stringing_on r now' words' w =
           let p = s.place in
           let k = vertex_count bytes (curve_place bytes at i) in
           let e = rw p at w.count in
           record {
-            passed = omega arith;
             place = rw (add-one i, p, e) refl;
             total = rw (add-one i) (omega (arith, s.total, vertices_snoc (curves_at bytes at i) (item i), k, e));
             rows =
@@ -209,10 +205,10 @@ module _ (bytes : List ℕ) (at : ℕ) where
                 ∙ row_more words_of item steps words 0 i (2 * from) s.words (omega (arith, words_length i, s.total));
           }
 
-      pub stringing_done : n ≤ i → Winded (curves_at bytes at n) curves steps now words
+      pub stringing_done : i ≤ n → n ≤ i → Winded (curves_at bytes at n) curves steps now words
       unfolding curve_words vertex_words
-      stringing_done h =
-          let q : i ≡ n = omega (arith, s.passed) in
+      stringing_done k h =
+          let q : i ≡ n = omega arith in
           record {
             rows = rw q at s.rows ∙ sets_over curves (flat_map row_of (first_of item n)) (omega (arith, flat_length row_of item 2 (λ i. refl) n, c.rows));
             words = rw q at s.words ∙ sets_over steps (flat_map words_of (first_of item n)) (omega (arith, words_length n, c.room));

@@ -1,25 +1,27 @@
-// Document 01, section 8: the file. It is judged whole, field by field, before a cell is written; then its lists are written to the first bench.
+// The file. It is judged whole, field by field, before a cell is written; then its lists are written to the first bench.
 // Any bytes, any slices of any lengths.
 #![tactic(auto)]
 
 ghost use Rattle.std.specs.Prelude.{◌≡◌};
-ghost use Rattle.geom.specs.Answers.{opening_of, no_mesh, mesh_of_kind};
+ghost use Rattle.geom.specs.Answers.{opening_of, no_mesh, mesh_of_kind, number_of};
 ghost use Rattle.geom.specs.Kinds.{kind_of};
 ghost use Rattle.geom.specs.File.{NO_SIZES, loaded};
-ghost use Rattle.judge.specs.Judged.{bench};
+ghost use Rattle.geom.specs.Lent.{words_of, words_on, Same};
 ghost use Rattle.figure.specs.Entry.{opening, outcome};
 
 use crate::writing::write;
-use geom::answer::{Opened, Reading, Sizes};
-use geom::kind::Kind;
+use geom::answer::{Reading, Sizes};
+use geom::bench::{Bench, BenchMut};
+use geom::refusal::Refusal;
 use judge::counts::{Lengths, benches_equal};
-use reading::judging::{Found, figure};
+use reading::judging::{Mesh, figure};
 
 pub mod writing;
 
 // After a refusal nothing was read: all sizes are 0.
-fn refused(n: u8) -> Reading
-    ensures { opening_of result ≡ opening NO_SIZES (no_mesh n) }
+#[tactic(auto, unfolding(geom::specs::Answers::judgement_of, geom::specs::Answers::opening_of))]
+fn refused(refusal: Refusal) -> Reading
+    ensures { opening_of result ≡ opening NO_SIZES (no_mesh (number_of refusal)) }
 {
     let sizes = Sizes {
         vertices: 0,
@@ -32,79 +34,36 @@ fn refused(n: u8) -> Reading
     };
     Reading {
         sizes,
-        opened: Opened::Refused(n),
+        opened: Err(refusal),
     }
 }
 
 // A mesh of a kind and sizes was read.
-fn read(kind: Kind, sizes: Sizes) -> Reading
-    ensures { opening_of result ≡ opening sizes (mesh_of_kind (kind_of kind)) }
+#[tactic(auto, unfolding(geom::specs::Answers::judgement_of, geom::specs::Answers::opening_of))]
+fn read(mesh: Mesh) -> Reading
+    ensures { opening_of result ≡ opening mesh.sizes (mesh_of_kind (kind_of mesh.kind)) }
 {
-    match kind {
-        Kind::Cubes => Reading {
-            sizes,
-            opened: Opened::Cubes,
-        },
-        Kind::Simplices => Reading {
-            sizes,
-            opened: Opened::Simplices,
-        },
+    Reading {
+        sizes: mesh.sizes,
+        opened: Ok(mesh.kind),
     }
 }
 
 // A file is read onto the first bench: 9 comes first, then it is judged field by field, and if refused nothing changes. Of the second bench the lengths
 // are enough.
-pub fn load(
-    file: &[u8],
-    positions: &mut [f32],
-    marks: &mut [u32],
-    points: &mut [u32],
-    lines: &mut [u32],
-    areas: &mut [u32],
-    volumes: &mut [u32],
-    curves: &mut [u32],
-    steps: &mut [u32],
-    other_positions: &[f32],
-    other_marks: &[u32],
-    other_points: &[u32],
-    other_lines: &[u32],
-    other_areas: &[u32],
-    other_volumes: &[u32],
-    other_curves: &[u32],
-    other_steps: &[u32],
-) -> Reading
-    ensures { outcome (opening_of result) (bench positions.new marks.new points.new lines.new areas.new volumes.new curves.new steps.new) ≡ loaded (bench positions.old marks.old points.old lines.old areas.old volumes.old curves.old steps.old) (bench other_positions.now other_marks.now other_points.now other_lines.now other_areas.now other_volumes.now other_curves.now other_steps.now) file.now }
+pub fn load(file: &[u8], bench: &mut BenchMut, other: &Bench) -> Reading
+    ensures same { Same bench.new bench.old }
+    ensures loaded { outcome (opening_of result) (words_on bench.new) ≡ loaded (words_on bench.old) (words_of other.now) file.now }
 {
-    let first = Lengths {
-        positions: positions.len(),
-        marks: marks.len(),
-        points: points.len(),
-        lines: lines.len(),
-        areas: areas.len(),
-        volumes: volumes.len(),
-        curves: curves.len(),
-        curve_vertices: steps.len(),
-    };
-    let second = Lengths {
-        positions: other_positions.len(),
-        marks: other_marks.len(),
-        points: other_points.len(),
-        lines: other_lines.len(),
-        areas: other_areas.len(),
-        volumes: other_volumes.len(),
-        curves: other_curves.len(),
-        curve_vertices: other_steps.len(),
-    };
-    if !benches_equal(first, second) {
-        return refused(9);
+    let first = Lengths::of(&bench.read());
+    if !benches_equal(first, Lengths::of(other)) {
+        return refused(Refusal::Count);
     }
     match figure(file, first) {
-        Found::Refused(n) => refused(n),
-        Found::Mesh { kind, sizes } => {
-            write(
-                file, kind, sizes, positions, marks, points, lines, areas, volumes, curves, steps,
-            );
-            read(kind, sizes)
+        Err(refusal) => refused(refusal),
+        Ok(mesh) => {
+            write(file, mesh.kind, mesh.sizes, bench);
+            read(mesh)
         }
     }
 }

@@ -5,7 +5,7 @@ ghost use Rattle.std.proofs.lemmas.List.Edits.{sets};
 ghost use Rattle.geom.specs.Kinds.{kind_of};
 ghost use Rattle.geom.specs.Memory.{parity_of, parity_word, element_words, over, bench_of};
 ghost use Rattle.geom.specs.File.{bench_over};
-ghost use Rattle.judge.specs.Judged.{bench};
+ghost use Rattle.geom.specs.Lent.{words_on, Same};
 ghost use Rattle.vertices.specs.Cells.{Over, Stand};
 ghost use Rattle.fields.specs.Fields.{vertex_at, vertices_at, numbers_at, wide, element_at, elements_at, curves_at};
 ghost use Rattle.reading.specs.Places.{mesh_at};
@@ -13,14 +13,17 @@ ghost use Rattle.figure.specs.Written.{row_words, step_word, steps_at, Words, Ro
 
 use fields::field::{big_endian, float_of};
 use geom::answer::Sizes;
+use geom::bench::BenchMut;
 use geom::kind::Kind;
+use geom::parity::Parity;
 use geom::vertex::Vertex;
 use judge::counts::{area_corners, volume_corners};
 use numbers::vec4::Vec4;
-use reading::reader::set_up;
+use reading::reader::Reader;
 use vertices::make::put_vertex;
 
 // The vertex at a place.
+#[tactic(auto, unfolding(fields::specs::Fields::vertex_at))]
 pub fn vertex_of(file: &[u8], at: usize) -> Vertex
     requires { at + 25 ≤ length file.now }
     ensures { result ≡ vertex_at file.now at }
@@ -52,11 +55,9 @@ pub fn put_vertices(
     ensures { (result ≡ at + 4 + 25 * n) × Over positions.old marks.old (vertices_at file.now (at + 4) n) positions.new marks.new }
 {
     let start = at + 4;
-    let mut i: usize = 0;
-    while i < n {
+    for i in 0..n {
         let v = vertex_of(file, start + 25 * i);
         put_vertex(positions, marks, i, v);
-        i += 1;
     }
     start + 25 * n
 }
@@ -66,14 +67,13 @@ pub fn put_numbers(file: &[u8], at: usize, out: &mut [u32], from: usize, n: usiz
     requires { Words file.now at out.old from n }
     ensures { out.new ≡ sets out.old from (numbers_at file.now at n) }
 {
-    let mut i: usize = 0;
-    while i < n {
+    for i in 0..n {
         out[from + i] = big_endian(file, at + 4 * i);
-        i += 1;
     }
 }
 
 // The list of points at a place.
+#[tactic(auto, using(crate::proofs::Elements::numbers_over))]
 pub fn put_points(file: &[u8], at: usize, points: &mut [u32], n: usize) -> usize
     requires { Words file.now (at + 4) points.old 0 n }
     ensures { (result ≡ at + 4 + 4 * n) × (points.new ≡ over points.old (numbers_at file.now (at + 4) n)) }
@@ -87,13 +87,11 @@ pub fn put_points(file: &[u8], at: usize, points: &mut [u32], n: usize) -> usize
 pub fn parity_word(byte: u8) -> u32
     ensures { result ≡ parity_word (parity_of byte) }
 {
-    if byte == 0 {
-        return 0;
-    }
-    1
+    u32::from(Parity::from(byte as u32))
 }
 
 // An element: its corners, then its parity.
+#[tactic(auto, using(crate::proofs::Elements::element_written))]
 pub fn put_element(file: &[u8], at: usize, out: &mut [u32], from: usize, corners: usize)
     requires { (at + wide corners ≤ length file.now) × (from + corners < length out.old) }
     ensures { out.new ≡ sets out.old from (row_words (element_at corners file.now at)) }
@@ -111,15 +109,14 @@ pub fn put_elements(file: &[u8], at: usize, out: &mut [u32], corners: usize, n: 
     let start = at + 4;
     let wide = 4 * corners + 1;
     let cell = corners + 1;
-    let mut i: usize = 0;
-    while i < n {
+    for i in 0..n {
         put_element(file, start + wide * i, out, cell * i, corners);
-        i += 1;
     }
     start + wide * n
 }
 
 // The word beside vertex j of a curve: the parity of the step to the next, and 0 beside the last. The vertices begin at a place, the parities behind them.
+#[tactic(auto, using(crate::proofs::Strings::step_last, crate::proofs::Strings::step_next))]
 pub fn step_word(file: &[u8], at: usize, count: usize, j: usize) -> u32
     requires { Steps file.now at count }
     ensures { result ≡ step_word file.now at count j }
@@ -137,13 +134,11 @@ pub fn put_steps(file: &[u8], at: usize, steps: &mut [u32], from: usize, count: 
     requires count_in_bounds { 2 * (from + count) ≤ length steps.old }
     ensures { steps.new ≡ sets steps.old (2 * from) (steps_at file.now at count) }
 {
-    let mut j: usize = 0;
-    while j < count {
+    for j in 0..count {
         let word = step_word(file, at, count, j);
         let row = 2 * (from + j);
         steps[row] = big_endian(file, at + 4 * j);
         steps[row + 1] = word;
-        j += 1;
     }
 }
 
@@ -175,37 +170,24 @@ pub fn put_curves(file: &[u8], at: usize, curves: &mut [u32], steps: &mut [u32],
 {
     let mut place = at + 4;
     let mut from: usize = 0;
-    let mut i: usize = 0;
-    while i < n {
+    for i in 0..n {
         let count = put_curve(file, place, curves, steps, i, from);
         place += 5 * count + 7;
         from += count;
-        i += 1;
     }
 }
 
 // The mesh of a file is written to a bench. A reader is set up behind version and kind, and moved past each list that was written.
-pub fn write(
-    file: &[u8],
-    kind: Kind,
-    s: Sizes,
-    positions: &mut [f32],
-    marks: &mut [u32],
-    points: &mut [u32],
-    lines: &mut [u32],
-    areas: &mut [u32],
-    volumes: &mut [u32],
-    curves: &mut [u32],
-    steps: &mut [u32],
-)
-    requires { Ready (kind_of kind) s file.now (bench positions.old marks.old points.old lines.old areas.old volumes.old curves.old steps.old) }
-    ensures { bench positions.new marks.new points.new lines.new areas.new volumes.new curves.new steps.new ≡ bench_over (bench positions.old marks.old points.old lines.old areas.old volumes.old curves.old steps.old) (bench_of (mesh_at (kind_of kind) s file.now)) }
+pub fn write(file: &[u8], kind: Kind, s: Sizes, bench: &mut BenchMut)
+    requires { Ready (kind_of kind) s file.now (words_on bench.old) }
+    ensures same { Same bench.new bench.old }
+    ensures written { words_on bench.new ≡ bench_over (words_on bench.old) (bench_of (mesh_at (kind_of kind) s file.now)) }
 {
-    let mut r = set_up(file, 2);
-    r.at = put_vertices(r.src, r.at, positions, marks, s.vertices);
-    r.at = put_points(r.src, r.at, points, s.points);
-    r.at = put_elements(r.src, r.at, lines, 2, s.lines);
-    r.at = put_elements(r.src, r.at, areas, area_corners(kind), s.areas);
-    r.at = put_elements(r.src, r.at, volumes, volume_corners(kind), s.volumes);
-    put_curves(r.src, r.at, curves, steps, s.curves);
+    let mut r = Reader::new(file, 2);
+    r.at = put_vertices(r.src, r.at, bench.positions, bench.marks, s.vertices);
+    r.at = put_points(r.src, r.at, bench.points, s.points);
+    r.at = put_elements(r.src, r.at, bench.lines, 2, s.lines);
+    r.at = put_elements(r.src, r.at, bench.areas, area_corners(kind), s.areas);
+    r.at = put_elements(r.src, r.at, bench.volumes, volume_corners(kind), s.volumes);
+    put_curves(r.src, r.at, bench.curves, bench.steps, s.curves);
 }

@@ -9,9 +9,9 @@ use native.Mathlib.Omega.{arith}
 use lib.Dec.{T, eqb, ltb→lt}
 use lib.Ieee.Fits.{and_l, and_r}
 use lib.ListN.{length, take, drop, length-take, length-drop}
+use Rattle.std.specs.Prelude.{Result, Ok}
 use Rattle.geom.specs.declared.answer.Sizes.{Sizes}
-use Rattle.geom.specs.declared.answer.Ended.{Ended}
-use Rattle.geom.specs.declared.answer.Ended.TheVariants.{Finished}
+use Rattle.geom.specs.declared.refusal.Refusal.{Refusal}
 use Rattle.geom.specs.Book.{Kind, cubes, simplices}
 use Rattle.geom.specs.Elements.{Curve}
 use Rattle.geom.specs.Ledger.{face_shape, volume_shape}
@@ -66,7 +66,7 @@ accepted_first ds es e = go (first_due ds) refl
     go (refused n) q = sym (refused_before ds es n q) ∙ e
 
 -- the judge found nothing
-pub accepted_by : {ended : Ended} {v : Verdict} → verdict_of ended ≡ v → ended ≡ Finished → v ≡ accepted
+pub accepted_by : {ended : Result Unit Refusal} {v : Verdict} {u : Unit} → verdict_of ended ≡ v → ended ≡ Ok u → v ≡ accepted
 unfolding verdict_of
 accepted_by j e = sym j ∙ ap verdict_of e
 

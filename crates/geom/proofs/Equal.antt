@@ -7,22 +7,11 @@ use lib.Dec.{eqb}
 use lib.ListN.{length}
 use borrow.Author.Tests.{eqb-true, eq-eqb}
 use Rattle.geom.specs.Form.{Form}
-use Rattle.geom.specs.Memory.{BenchIn}
+use Rattle.geom.specs.Memory.{BenchIn, AsLong}
 use Rattle.geom.specs.Refusals.{benches_equal}
 use Rattle.geom.proofs.Lists.{and_true_left, and_true_right}
 
--- the slices of each list are as long on both
-pub record Same {F : Form} (x y : BenchIn F) : Type 0 where
-  pub positions : length x.positions ≡ length y.positions
-  pub marks : length x.marks ≡ length y.marks
-  pub points : length x.points ≡ length y.points
-  pub lines : length x.lines ≡ length y.lines
-  pub areas : length x.areas ≡ length y.areas
-  pub volumes : length x.volumes ≡ length y.volumes
-  pub curves : length x.curves ≡ length y.curves
-  pub curve_vertices : length x.curve_vertices ≡ length y.curve_vertices
-
-pub equal_facts : {F : Form} (x y : BenchIn F) → benches_equal x y ≡ true → Same x y
+pub equal_facts : {F : Form} (x y : BenchIn F) → benches_equal x y ≡ true → AsLong x y
 unfolding benches_equal
 equal_facts x y e =
     let q = eqb (length x.positions) (length y.positions) in
@@ -50,7 +39,7 @@ equal_facts x y e =
       curve_vertices = eqb-true _ _ (and_true_right (q && m && p && l && a && o && c) k e);
     }
 
-pub equal_holds : {F : Form} {x y : BenchIn F} → Same x y → benches_equal x y ≡ true
+pub equal_holds : {F : Form} {x y : BenchIn F} → AsLong x y → benches_equal x y ≡ true
 unfolding benches_equal
 equal_holds s =
     rw (

@@ -11,13 +11,12 @@ use lib.Ieee.{Float, neg, eq, binary32}
 use lib.ListN.{length}
 use Rattle.numbers.specs.declared.vec3.Vec3.{Vec3}
 use Rattle.numbers.specs.declared.vec4.Vec4.{Vec4}
-use Rattle.numbers.specs.declared.normal.Normal3.{Normal3}
-use Rattle.numbers.specs.declared.normal.Normal4.{Normal4}
+use Rattle.std.specs.Prelude.{Option}
 use Rattle.numbers.specs.Binary32.{◌⊕◌, ◌⊗◌, ◌⊘◌, zero, one}
 use Rattle.numbers.specs.Points3 as Points3
 use Rattle.numbers.specs.Points4 as Points4
 use Rattle.numbers.specs.Root.{root}
-use Rattle.numbers.specs.Normal.{flat3, flat4, unit3, unit4, normalised3, normalised4, cells3, cells4}
+use Rattle.numbers.specs.Normal.{flat, unit, cells, flat3, flat4, unit3, unit4, normalised3, normalised4, cells3, cells4}
 use Rattle.numbers.proofs.Normals.{flat_is_Flat3, else_a_direction3, flat_is_Flat4, else_a_direction4, wide3, wide4}
 use Rattle.numbers.proofs.Negation.{mul_neg, sign_bit}
 use Rattle.numbers.proofs.Mirror.{nonzero, square_same, nonzero_differs}
@@ -68,7 +67,7 @@ module _ (u v : Vec3) (h : Sides3 u v) where
       ap₂ ◌⊕◌ (ap₂ ◌⊕◌ (square_same u.x v.x h.on_x.mirrored) (square_same u.y v.y h.on_y.mirrored)) (square_same u.z v.z h.on_z.mirrored)
 
   same_flat3 : flat3 v ≡ flat3 u
-  unfolding flat3
+  unfolding flat flat3
   same_flat3 = ap (λ (d : Float). eq d zero) same_dot3
 
   dot3 : Dot 3 (Points3.dot u u)
@@ -76,14 +75,14 @@ module _ (u v : Vec3) (h : Sides3 u v) where
   dot3 = next_square 2 _ u.z (lit< tt) (next_square 1 _ u.y (lit< tt) (first_square u.x h.on_x.small) h.on_y.small) h.on_z.small
 
   none3 : flat3 u ≡ true → (cells3 (normalised3 u) ≡ flat_cell (u.x ∷ u.y ∷ u.z ∷ [])) × (cells3 (normalised3 v) ≡ flat_cell (u.x ∷ u.y ∷ u.z ∷ []))
-  unfolding cells3
+  unfolding cells cells3
   none3 e = (ap cells3 (flat_is_Flat3 u e), ap cells3 (flat_is_Flat3 v (same_flat3 ∙ e)))
 
   turns3 : flat3 u ≡ false → Turns (u.x ∷ u.y ∷ u.z ∷ []) (cells3 (normalised3 u)) (cells3 (normalised3 v))
-  unfolding Turns cells3 unit3 Points3.scaled
+  unfolding Turns cells cells3 unit unit3 Points3.scaled
   turns3 e =
       let r = one ⊘ root (Points3.dot u u) in
-      let p : Plus r = dot_inverse 3 (Points3.dot u u) dot3 (unfold flat3 in e) in
+      let p : Plus r = dot_inverse 3 (Points3.dot u u) dot3 (unfold flat flat3 in e) in
       let q : one ⊘ root (Points3.dot v v) ≡ r = ap (λ (d : Float). one ⊘ root d) same_dot3 in
       rw (else_a_direction3 u e, else_a_direction3 v (same_flat3 ∙ e), q)
       (turned r u.x v.x p h.on_x, (turned r u.y v.y p h.on_y, (turned r u.z v.z p h.on_z, tt)))
@@ -99,7 +98,7 @@ module _ (u v : Vec4) (h : Sides4 u v) where
       (square_same u.w v.w h.on_w.mirrored)
 
   same_flat4 : flat4 v ≡ flat4 u
-  unfolding flat4
+  unfolding flat flat4
   same_flat4 = ap (λ (d : Float). eq d zero) same_dot4
 
   dot4 : Dot 4 (Points4.dot u u)
@@ -109,14 +108,14 @@ module _ (u v : Vec4) (h : Sides4 u v) where
       (next_square 2 _ u.z (lit< tt) (next_square 1 _ u.y (lit< tt) (first_square u.x h.on_x.small) h.on_y.small) h.on_z.small) h.on_w.small
 
   none4 : flat4 u ≡ true → (cells4 (normalised4 u) ≡ flat_cell (u.x ∷ u.y ∷ u.z ∷ u.w ∷ [])) × (cells4 (normalised4 v) ≡ flat_cell (u.x ∷ u.y ∷ u.z ∷ u.w ∷ []))
-  unfolding cells4
+  unfolding cells cells4 Points4.origin
   none4 e = (ap cells4 (flat_is_Flat4 u e), ap cells4 (flat_is_Flat4 v (same_flat4 ∙ e)))
 
   turns4 : flat4 u ≡ false → Turns (u.x ∷ u.y ∷ u.z ∷ u.w ∷ []) (cells4 (normalised4 u)) (cells4 (normalised4 v))
-  unfolding Turns cells4 unit4 Points4.scaled
+  unfolding Turns cells cells4 unit unit4 Points4.scaled
   turns4 e =
       let r = one ⊘ root (Points4.dot u u) in
-      let p : Plus r = dot_inverse 4 (Points4.dot u u) dot4 (unfold flat4 in e) in
+      let p : Plus r = dot_inverse 4 (Points4.dot u u) dot4 (unfold flat flat4 in e) in
       let q : one ⊘ root (Points4.dot v v) ≡ r = ap (λ (d : Float). one ⊘ root d) same_dot4 in
       rw (else_a_direction4 u e, else_a_direction4 v (same_flat4 ∙ e), q)
       (turned r u.x v.x p h.on_x, (turned r u.y v.y p h.on_y, (turned r u.z v.z p h.on_z, (turned r u.w v.w p h.on_w, tt))))
@@ -213,7 +212,7 @@ module _ (s : Sizes) (b : Bench) (e : first_due (handed_in true true simplices s
   unfolding flipped_mesh sizes_of
   sides4 = sums4_sides given.vertices placed (length given.vertices) v given.lists.volumes within_limits.volumes well.volumes
 
-writes3 : Writes three Normal3
+writes3 : Writes three (Option Vec3)
 unfolding shading3 normals3
 writes3 =
     record {
@@ -226,7 +225,7 @@ writes3 =
       turns = λ s b e v. turns3 _ _ (sides3 s b e v);
     }
 
-writes4 : Writes four Normal4
+writes4 : Writes four (Option Vec4)
 unfolding shading4 normals4
 writes4 =
     record {

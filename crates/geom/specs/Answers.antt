@@ -1,17 +1,30 @@
--- Document 01, refusals: what an entry's answer says. For each case of the enums `Ended` and `Opened` this gives the paper's number, or none,
--- and the kind. The enums that are answers inside a pass stand for an `Ending`, by a definition beside each.
+-- What an entry's answer says: each refusal's number, or none, and the kind. What is answered inside a pass stands for an `Ending`, by a
+-- definition beside it.
 -- Says nothing of when a number is due (Refinement, Refusals, File).
 -- Assumes nothing.
-use Rattle.std.specs.Prelude.{Bool, true, false, cond, List, [], ◌∷◌, ℕ, eqb}
+use Rattle.std.specs.Prelude.{Bool, true, false, cond, List, [], ◌∷◌, ℕ, eqb, Result, Ok, Err}
 use Rattle.geom.specs.declared.answer.Sizes.{Sizes}
-use Rattle.geom.specs.declared.answer.Ended.{Ended}
-use Rattle.geom.specs.declared.answer.Ended.TheVariants.{Finished, Refused}
+use Rattle.geom.specs.declared.refusal.Refusal.{Refusal}
+use Rattle.geom.specs.declared.refusal.Refusal.TheVariants as R
+use Rattle.geom.specs.declared.kind.Kind as K
 use Rattle.geom.specs.declared.answer.Refined.{Refined}
 use Rattle.geom.specs.declared.answer.Answer.{Answer}
-use Rattle.geom.specs.declared.answer.Opened.{Opened}
-use Rattle.geom.specs.declared.answer.Opened.TheVariants as O
 use Rattle.geom.specs.declared.answer.Reading.{Reading}
-use Rattle.geom.specs.Book.{Kind, cubes, simplices}
+use Rattle.geom.specs.Book.{Kind}
+use Rattle.geom.specs.Kinds.{kind_of}
+
+-- the number of each refusal
+abbrev pub number_of : Refusal → ℕ
+number_of R.Version = 1
+number_of R.Kind = 2
+number_of R.Short = 3
+number_of R.Surplus = 4
+number_of R.Mark = 5
+number_of R.Coordinate = 6
+number_of R.Number = 7
+number_of R.Curve = 8
+number_of R.Count = 9
+number_of R.Room = 10
 
 -- no refusal, or the refusal with its number
 pub data Verdict : Type 0 where
@@ -19,9 +32,9 @@ pub data Verdict : Type 0 where
   refused : ℕ → Verdict
 
 -- how it ended: finished, or refused with its number
-unfoldable pub verdict_of : Ended → Verdict
-verdict_of Finished = accepted
-verdict_of (Refused n) = refused n
+unfoldable pub verdict_of : Result Unit Refusal → Verdict
+verdict_of (Ok _) = accepted
+verdict_of (Err r) = refused (number_of r)
 
 -- A refinement's answer is a record: passes, sizes and how it ended.
 pub record Told : Type 0 where
@@ -45,10 +58,9 @@ pub data Judgement : Type 0 where
   mesh_of_kind : Kind → Judgement
   no_mesh : ℕ → Judgement
 
-unfoldable pub judgement_of : Opened → Judgement
-judgement_of O.Cubes = mesh_of_kind cubes
-judgement_of O.Simplices = mesh_of_kind simplices
-judgement_of (O.Refused n) = no_mesh n
+unfoldable pub judgement_of : Result K.Kind Refusal → Judgement
+judgement_of (Ok kind) = mesh_of_kind (kind_of kind)
+judgement_of (Err r) = no_mesh (number_of r)
 
 -- the answer of reading: sizes, and how it ended
 pub record Opening : Type 0 where

@@ -21,6 +21,7 @@ pub mod Refinement
 -- a mesh in memory, and what is refused
 pub mod Memory
 pub mod Refusals
+pub mod Lent
 -- what a refinement keeps
 pub mod Soundness
 -- what else is done with a mesh, and (document 02) what triangulation does to a ledger (U8) and the other parities to normals (U5)

@@ -5,7 +5,7 @@
 -- Says nothing of which words are accepted (Refusals). The book's and smoothing's words have no meaning here beyond their number.
 -- Assumes nothing.
 use mathlib.Core.List.{List, [], ◌∷◌, ◌++◌, map, flat_map}
-use Rattle.std.specs.Prelude.{ℕ, zero, suc, ◌+◌, ◌*◌, ◌/◌, min, Float, length, get_or, take, drop}
+use Rattle.std.specs.Prelude.{ℕ, zero, suc, ◌+◌, ◌*◌, ◌/◌, min, Float, length, get_or, take, drop, ◌≡◌}
 use Rattle.geom.specs.declared.parity.Parity.{Parity}
 use Rattle.geom.specs.declared.parity.Parity.TheVariants.{Even, Odd}
 use Rattle.geom.specs.declared.vertex.Vertex.{Vertex}
@@ -34,6 +34,17 @@ pub record BenchIn (F : Form) : Type 0 where
 
 abbrev pub Bench : Type 0
 Bench = BenchIn binary32
+
+-- the slices of each list are as long on one bench as on another
+pub record AsLong {F : Form} (x y : BenchIn F) : Type 0 where
+  pub positions : length x.positions ≡ length y.positions
+  pub marks : length x.marks ≡ length y.marks
+  pub points : length x.points ≡ length y.points
+  pub lines : length x.lines ≡ length y.lines
+  pub areas : length x.areas ≡ length y.areas
+  pub volumes : length x.volumes ≡ length y.volumes
+  pub curves : length x.curves ≡ length y.curves
+  pub curve_vertices : length x.curve_vertices ≡ length y.curve_vertices
 
 -- how many corners an area and a volume have
 abbrev pub area_corners : Kind → ℕ

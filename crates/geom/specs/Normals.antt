@@ -3,13 +3,11 @@
 -- Said per vertex: the sum that vertex v gathers in mesh order, from +0, and then normalised (section 1, in `numbers`).
 -- Says nothing of a normal's length.
 -- Assumes nothing.
-use Rattle.std.specs.Prelude.{Bool, true, cond, not, ◌&&◌, ℕ, ◌/◌, eqb, leb, Float, length}
+use Rattle.std.specs.Prelude.{Bool, true, cond, not, ◌&&◌, ℕ, ◌/◌, eqb, leb, Float, Option, length}
 use mathlib.Core.List.{List, [], ◌∷◌, ◌++◌, flat_map}
 use Rattle.std.specs.Float.Ieee.{neg}
 use Rattle.numbers.specs.declared.vec3.Vec3.{Vec3}
 use Rattle.numbers.specs.declared.vec4.Vec4.{Vec4}
-use Rattle.numbers.specs.declared.normal.Normal3.{Normal3}
-use Rattle.numbers.specs.declared.normal.Normal4.{Normal4}
 use Rattle.numbers.specs.Binary32.{◌⊖◌, ◌⊗◌, zero, one, count}
 use Rattle.numbers.specs.Points3 as Points3
 use Rattle.numbers.specs.Points4 as Points4
@@ -68,7 +66,7 @@ gather3 vertices v (e ∷ es) s =
 abbrev pub origin3 : Vec3
 origin3 = record { x = zero; y = zero; z = zero }
 
-unfoldable pub normals3 : Mesh → List Normal3
+unfoldable pub normals3 : Mesh → List (Option Vec3)
 normals3 m =
     first_of (λ (v : ℕ). normalised3 (gather3 m.vertices v m.lists.areas origin3)) (length m.vertices)
 
@@ -102,7 +100,7 @@ gather4 vertices v [] s = s
 gather4 vertices v (e ∷ es) s =
     gather4 vertices v es (to_corners Points4.sum (volume_normal vertices e) v e.corners s)
 
-unfoldable pub normals4 : Mesh → List Normal4
+unfoldable pub normals4 : Mesh → List (Option Vec4)
 normals4 m =
     first_of (λ (v : ℕ). normalised4 (gather4 m.vertices v m.lists.volumes Points4.origin)) (length m.vertices)
 

@@ -1,6 +1,6 @@
-// Document 01: the two kinds of mesh.
-#[derive(Clone, Copy)]
+// The two kinds of mesh, each with the number by which a file and C know it.
+#[derive(Clone, Copy, PartialEq, Eq)]
 pub enum Kind {
-    Cubes,
-    Simplices,
+    Cubes = 0,
+    Simplices = 1,
 }

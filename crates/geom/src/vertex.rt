@@ -1,4 +1,4 @@
-// Document 01, section 2: a vertex has a position, four boundary flags, a tag and k. The position is a struct inside the vertex, and
+// A vertex has a position, four boundary flags, a tag and k. The position is a struct inside the vertex, and
 // both go through functions by value.
 use numbers::vec4::Vec4;
 

@@ -1,9 +1,7 @@
 -- What the functions of the index answer, for keys of two words.
 -- Says nothing of where a new entry hangs when there is no cell left for it.
 -- Assumes nothing.
-use Rattle.std.specs.Prelude.{◌≡◌, Bool, true, false, List, [], ◌∷◌, ◌++◌, ℕ, suc, ◌<◌}
-use Rattle.index.specs.declared.Found.{Found}
-use Rattle.index.specs.declared.Found.TheVariants.{At, Nowhere}
+use Rattle.std.specs.Prelude.{◌≡◌, Bool, true, false, List, [], ◌∷◌, ◌++◌, ℕ, suc, ◌<◌, Result, Ok, Err}
 use Rattle.index.specs.Cells.{NONE, Layout, cells, key_at, keys_of, bucket_of, bucket_at, pairs}
 use Rattle.index.specs.Trees.{Linked, Open}
 
@@ -23,9 +21,9 @@ pub record Lacks (L : Layout) (words : List ℕ) (made : ℕ) (q : List ℕ) (at
   pub hangs : made < cells L words → Open L words made q at
 
 -- the search's answer: the key's entry, or that there is none
-abbrev pub Sought : List ℕ → ℕ → List ℕ → Found → Type 0
-Sought words made q (At e) = Holds pairs words made q e
-Sought words made q (Nowhere at) = Lacks pairs words made q at
+abbrev pub Sought : List ℕ → ℕ → List ℕ → Result ℕ ℕ → Type 0
+Sought words made q (Ok e) = Holds pairs words made q e
+Sought words made q (Err at) = Lacks pairs words made q at
 
 -- whether a link leads to the entry of the key q
 abbrev pub Names : List ℕ → ℕ → List ℕ → ℕ → Bool → Type 0

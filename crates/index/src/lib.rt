@@ -16,13 +16,6 @@ pub const CELL: usize = 6;
 // The link that leads nowhere.
 const NONE: usize = 0xFFFF_FFFF;
 
-// What a search ends with: the entry that it found, or none and the word from which a new entry hangs.
-#[derive(Clone, Copy)]
-pub enum Found {
-    At(usize),
-    Nowhere(usize),
-}
-
 // Word k of a row.
 fn word_at(words: &[u32], row: usize, k: usize) -> u32
     requires { 4 * row + k < length words.now }
@@ -87,23 +80,23 @@ fn believed(words: &[u32], made: usize, link: usize, home: usize) -> bool
     its == home
 }
 
-// The search for the key [a,b]. Each turn takes one of its 64 bits: an entry at level 64 has them all, so it is the key's own.
-pub fn find(words: &[u32], made: usize, a: u32, b: u32) -> Found
+// The search for the key [a,b]: the entry that was found, or else the word from which a new entry hangs. Each turn takes one of its 64 bits: an entry at level 64 has them all, so it is the key's own.
+pub fn find(words: &[u32], made: usize, a: u32, b: u32) -> Result<usize, usize>
     requires { Linked pairs words.now made }
     ensures { Sought words.now made (a ∷ b ∷ []) result }
 {
     let cells = words.len() / CELL;
     if cells == 0 {
-        return Found::Nowhere(0);
+        return Err(0);
     }
     let home = bucket(cells, a, b);
     let recent = word_at(words, cells, 2 * home + 1) as usize;
     if names(words, made, recent, a, b) {
-        return Found::At(recent);
+        return Ok(recent);
     }
     let root = word_at(words, cells, 2 * home) as usize;
     if !believed(words, made, root, home) {
-        return Found::Nowhere(ROW * cells + 2 * home);
+        return Err(ROW * cells + 2 * home);
     }
     let mut rest = a as u64 * 4294967296 + b as u64;
     let mut depth: usize = 0;
@@ -112,12 +105,12 @@ pub fn find(words: &[u32], made: usize, a: u32, b: u32) -> Found
         let first = word_at(words, link, 0);
         let second = word_at(words, link, 1);
         if same(first, second, a, b) {
-            break Found::At(link);
+            break Ok(link);
         }
         let side = (rest % 2) as usize;
         let next = word_at(words, link, 2 + side) as usize;
         if next == NONE {
-            break Found::Nowhere(ROW * link + 2 + side);
+            break Err(ROW * link + 2 + side);
         }
         rest = rest / 2;
         depth += 1;

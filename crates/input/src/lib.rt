@@ -7,6 +7,8 @@ ghost use Rattle.std.specs.Prelude.{◌<◌, ◌≤◌, length, take, IfOk};
 use std::io;
 use std::io::Read;
 
+// The library's `read_exact` says nothing of a source that ends before the buffer is full, and its `read_to_end` takes the heap.
+//
 // How many bytes were put at the start of buf, which are the source's next ones: fewer than it holds only where the source ended.
 pub fn read_full<R: Read>(source: &mut R, buf: &mut [u8]) -> io::Result<usize>
     ensures bound { IfOk result (λ n. n ≤ length buf.new) }

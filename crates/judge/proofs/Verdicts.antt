@@ -110,7 +110,7 @@ module _ {F : Form} (kind : Kind) (s : Sizes) (b : BenchIn F) (e : counts_hold k
   unfolding cells
   counts_curves = omega (arith, facts.curves)
 
-  pub counts_marked : Marked kind s b.marks b.lines b.areas b.volumes b.curves b.curve_vertices
+  pub counts_marked : Marked kind s b
   unfolding cells counts_hold rows_of
   counts_marked =
       record {
@@ -124,7 +124,7 @@ module _ {F : Form} (kind : Kind) (s : Sizes) (b : BenchIn F) (e : counts_hold k
             };
       }
 
-  pub counts_numbered : Numbered kind s b.points b.lines b.areas b.volumes b.curve_vertices
+  pub counts_numbered : Numbered kind s b
   unfolding cells
   counts_numbered = record { point = facts.points; listed = listed; step = omega (arith, facts.curve_vertices) }
 

@@ -42,13 +42,13 @@ pub record Listed (kind : Kind) (s : Sizes) (lines areas volumes : List ℕ) : T
   pub volume : Elements volumes (volume_corners kind) s.volumes
 
 -- all rows that have flags or parities do
-pub record Marked (kind : Kind) (s : Sizes) (marks lines areas volumes curves steps : List ℕ) : Type 0 where
-  pub flags : 3 * s.vertices ≤ length marks
-  pub listed : Listed kind s lines areas volumes
-  pub parts : Parts curves s.curves steps s.curve_vertices
+pub record Marked {F : Form} (kind : Kind) (s : Sizes) (b : BenchIn F) : Type 0 where
+  pub flags : 3 * s.vertices ≤ length b.marks
+  pub listed : Listed kind s b.lines b.areas b.volumes
+  pub parts : Parts b.curves s.curves b.curve_vertices s.curve_vertices
 
 -- all rows that have vertex numbers do
-pub record Numbered (kind : Kind) (s : Sizes) (points lines areas volumes steps : List ℕ) : Type 0 where
-  pub point : s.points ≤ length points
-  pub listed : Listed kind s lines areas volumes
-  pub step : 2 * s.curve_vertices ≤ length steps
+pub record Numbered {F : Form} (kind : Kind) (s : Sizes) (b : BenchIn F) : Type 0 where
+  pub point : s.points ≤ length b.points
+  pub listed : Listed kind s b.lines b.areas b.volumes
+  pub step : 2 * s.curve_vertices ≤ length b.curve_vertices

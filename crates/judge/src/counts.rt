@@ -1,15 +1,20 @@
-// Document 01, refusals 9 and 10: counts against lent cells and the limit.
-ghost use Rattle.std.specs.Prelude.{◌≡◌, min};
+// Refusals 9 and 10: counts against lent cells and the limit.
+ghost use Rattle.std.specs.Prelude.{◌≡◌};
 ghost use Rattle.geom.specs.Kinds.{kind_of};
 ghost use Rattle.geom.specs.Memory.{area_corners, volume_corners};
 ghost use Rattle.geom.specs.Refinement as Refinement;
-ghost use Rattle.judge.specs.Counts.{cells_of, equal_of, benches_of};
+ghost use Rattle.judge.specs.Counts.{cells_of, equal_of, benches_of, lengths_of};
+ghost use Rattle.geom.specs.Lent.{words_of};
 
 use geom::answer::Sizes;
+use geom::bench::Bench;
 use geom::kind::Kind;
 
+// The limit of each list.
+pub const LIMIT: usize = 1_048_576;
+
 // How long the slices of a bench are.
-#[derive(Clone, Copy)]
+#[derive(Clone, Copy, PartialEq, Eq)]
 pub struct Lengths {
     pub positions: usize,
     pub marks: usize,
@@ -19,6 +24,23 @@ pub struct Lengths {
     pub volumes: usize,
     pub curves: usize,
     pub curve_vertices: usize,
+}
+
+impl Lengths {
+    pub fn of(bench: &Bench) -> Lengths
+        ensures { result ≡ lengths_of (words_of bench.now) }
+    {
+        Lengths {
+            positions: bench.positions.len(),
+            marks: bench.marks.len(),
+            points: bench.points.len(),
+            lines: bench.lines.len(),
+            areas: bench.areas.len(),
+            volumes: bench.volumes.len(),
+            curves: bench.curves.len(),
+            curve_vertices: bench.steps.len(),
+        }
+    }
 }
 
 // How many corners an area has.
@@ -41,29 +63,16 @@ pub fn volume_corners(kind: Kind) -> usize
     }
 }
 
-// The smaller of two numbers.
-pub fn smaller(a: usize, b: usize) -> usize
-    ensures { result ≡ min a b }
-{
-    if a < b {
-        return a;
-    }
-    b
-}
-
 // Lent cells: whole rows; of a list in two slices, the smaller number.
 pub fn cells(kind: Kind, b: Lengths) -> Sizes
     ensures { result ≡ cells_of (kind_of kind) b }
 {
-    let vertices = smaller(b.positions / 4, b.marks / 3);
-    let area = area_corners(kind);
-    let volume = volume_corners(kind);
     Sizes {
-        vertices,
+        vertices: (b.positions / 4).min(b.marks / 3),
         points: b.points,
         lines: b.lines / 3,
-        areas: b.areas / (area + 1),
-        volumes: b.volumes / (volume + 1),
+        areas: b.areas / (area_corners(kind) + 1),
+        volumes: b.volumes / (volume_corners(kind) + 1),
         curves: b.curves / 2,
         curve_vertices: b.curve_vertices / 2,
     }
@@ -73,28 +82,13 @@ pub fn cells(kind: Kind, b: Lengths) -> Sizes
 pub fn within(s: Sizes, t: Sizes) -> bool
     ensures { result ≡ Refinement.within s t }
 {
-    if t.vertices < s.vertices {
-        return false;
-    }
-    if t.points < s.points {
-        return false;
-    }
-    if t.lines < s.lines {
-        return false;
-    }
-    if t.areas < s.areas {
-        return false;
-    }
-    if t.volumes < s.volumes {
-        return false;
-    }
-    if t.curves < s.curves {
-        return false;
-    }
-    if t.curve_vertices < s.curve_vertices {
-        return false;
-    }
-    true
+    (s.vertices <= t.vertices)
+        & (s.points <= t.points)
+        & (s.lines <= t.lines)
+        & (s.areas <= t.areas)
+        & (s.volumes <= t.volumes)
+        & (s.curves <= t.curves)
+        & (s.curve_vertices <= t.curve_vertices)
 }
 
 // 10: no list handed in counts more entries than the limit.
@@ -102,13 +96,13 @@ pub fn limits_hold(s: Sizes) -> bool
     ensures { result ≡ Refinement.within s Refinement.LIMITS }
 {
     let limits = Sizes {
-        vertices: 1_048_576,
-        points: 1_048_576,
-        lines: 1_048_576,
-        areas: 1_048_576,
-        volumes: 1_048_576,
-        curves: 1_048_576,
-        curve_vertices: 1_048_576,
+        vertices: LIMIT,
+        points: LIMIT,
+        lines: LIMIT,
+        areas: LIMIT,
+        volumes: LIMIT,
+        curves: LIMIT,
+        curve_vertices: LIMIT,
     };
     within(s, limits)
 }
@@ -117,14 +111,7 @@ pub fn limits_hold(s: Sizes) -> bool
 pub fn benches_equal(first: Lengths, second: Lengths) -> bool
     ensures { result ≡ equal_of first second }
 {
-    (first.positions == second.positions)
-        & (first.marks == second.marks)
-        & (first.points == second.points)
-        & (first.lines == second.lines)
-        & (first.areas == second.areas)
-        & (first.volumes == second.volumes)
-        & (first.curves == second.curves)
-        & (first.curve_vertices == second.curve_vertices)
+    first == second
 }
 
 // 9: and smoothing's cells, of the sums as of the tallies, are as many as the vertices'.

@@ -1,4 +1,4 @@
-// Document 01, 'Who can cause which refusal': the judge of a mesh in memory. Nothing is written.
+// The judge of a mesh in memory. Nothing is written.
 #![tactic(auto)]
 
 pub mod counts;

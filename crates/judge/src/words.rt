@@ -1,4 +1,4 @@
-// Document 01, refusals 5 to 8: loops over the words of one list. A loop over words looks at each of them; one over elements or curves ends at the
+// Refusals 5 to 8: loops over the words of one list. A loop over words looks at each of them; one over elements or curves ends at the
 // first that is refused.
 ghost use Rattle.std.specs.Prelude.{◌≡◌, List, ℕ, ◌+◌, ◌*◌, ◌≤◌, ◌<◌, eqb, length, get_or, take, drop};
 ghost use Rattle.geom.specs.declared.vertex.Vertex.{Vertex};
@@ -7,7 +7,7 @@ ghost use Rattle.geom.specs.Memory.{ElementRow, StepRow, first_of, vertex_row, v
 ghost use Rattle.geom.specs.Refusals.{every, good_flags, good_parity, good_coordinate, good_position, good_number, good_curve, curve_lengths};
 ghost use Rattle.judge.specs.Words.{column_below, words_below, Column, Elements, Parts};
 
-use geom::words::{number, word};
+use geom::words::word;
 
 // Whether one word of each row is below the bound. Every row is looked at, so that the compiler takes several at once, and the place of the word
 // goes from row to row by a sum, where the width isn't known to the compiler.
@@ -18,11 +18,9 @@ pub fn column_below(words: &[u32], width: usize, column: usize, rows: usize, bou
 {
     let mut all = true;
     let mut at = column;
-    let mut i: usize = 0;
-    while i < rows {
+    for i in 0..rows {
         all = all & (word(words, at) < bound);
         at += width;
-        i += 1;
     }
     all
 }
@@ -33,10 +31,8 @@ fn words_below(words: &[u32], end: usize, bound: u32) -> bool
     ensures { result ≡ words_below words.now end bound }
 {
     let mut all = true;
-    let mut i: usize = 0;
-    while i < end {
-        all = all & (words[i] < bound);
-        i += 1;
+    for word in &words[..end] {
+        all = all & (*word < bound);
     }
     all
 }
@@ -77,13 +73,10 @@ pub fn corners_hold(words: &[u32], corners: usize, rows: usize, count: usize) ->
     if all_below(words, (corners + 1) * rows, count) {
         return true;
     }
-    let mut i: usize = 0;
-    while i < rows {
-        let start = (corners + 1) * i;
-        if !column_below(words, 1, start, corners, count) {
+    for i in 0..rows {
+        if !column_below(words, 1, (corners + 1) * i, corners, count) {
             return false;
         }
-        i += 1;
     }
     true
 }
@@ -109,12 +102,10 @@ pub fn curves_hold(curves: &[u32], rows: usize) -> bool
     requires { 2 * rows ≤ length curves.now }
     ensures { result ≡ every good_curve (first_of (curve_row curves.now) rows) }
 {
-    let mut i: usize = 0;
-    while i < rows {
+    for i in 0..rows {
         if word(curves, 2 * i + 1) == 0 {
             return false;
         }
-        i += 1;
     }
     true
 }
@@ -131,12 +122,9 @@ pub fn positions_hold(positions: &[f32], vertices: usize) -> bool
     requires { 4 * vertices ≤ length positions.now }
     ensures { (marks : List ℕ) → result ≡ every (λ (v : Vertex). good_position v.position) (first_of (vertex_row positions.now marks) vertices) }
 {
-    let end = 4 * vertices;
     let mut all = true;
-    let mut i: usize = 0;
-    while i < end {
-        all = all & coordinate_holds(number(positions, i));
-        i += 1;
+    for coordinate in &positions[..4 * vertices] {
+        all = all & coordinate_holds(*coordinate);
     }
     all
 }
@@ -147,14 +135,12 @@ pub fn lengths_hold(curves: &[u32], rows: usize, total: usize) -> bool
     ensures { result ≡ eqb (curve_lengths (first_of (curve_row curves.now) rows)) total }
 {
     let mut left = total;
-    let mut i: usize = 0;
-    while i < rows {
+    for i in 0..rows {
         let count = word(curves, 2 * i + 1);
         if left < count {
             return false;
         }
         left -= count;
-        i += 1;
     }
     left == 0
 }
@@ -175,15 +161,13 @@ pub fn parts_hold(curves: &[u32], rows: usize, steps: &[u32], total: usize) -> b
     requires { Parts curves.now rows steps.now total }
     ensures { result ≡ every (λ (part : List StepRow). every good_parity (step_words part)) (curve_parts (first_of (curve_row curves.now) rows) (first_of (step_row steps.now) total)) }
 {
-    let mut start: usize = 0;
-    let mut i: usize = 0;
-    while i < rows {
+    let mut start = 0;
+    for i in 0..rows {
         let count = word(curves, 2 * i + 1);
         if !part_holds(steps, start, count) {
             return false;
         }
         start += count;
-        i += 1;
     }
     true
 }

@@ -1,21 +1,16 @@
--- Numbers as digits: a decimal number by its last digit, and what a loop has written that goes from the last digit to the first.
+-- Numbers as digits: a decimal number by its last digit, and the digits of a pattern.
 -- Assumes nothing.
 use mathlib.Core.Path.{◌≡◌, refl, sym, ◌∙◌, ap, subst}
 use mathlib.Core.Bool.{Bool, true, false}
-use mathlib.Core.List.{List, [], ◌∷◌, ◌++◌, append_assoc, append-nil}
+use mathlib.Core.List.{List, [], ◌∷◌, ◌++◌, append_assoc}
 use Prim.Native.Nat.{ℕ, zero, suc, ◌+◌, ◌-◌, ◌*◌, ◌/◌, ◌%◌, ◌^◌, ◌≤◌, ◌<◌}
 use native.Mathlib.Omega.{arith}
 use lib.Dec.{T, ltb}
 use lib.Ieee.{Float, binary32, to_bits, ne}
 use lib.Ieee.Compare.{differs_from_itself}
-use lib.ListN.{length, get_or, take, drop, set, length-append}
-use lib.Seq.{take-suc, set_at, length-take-le}
 use borrow.Author.Tests.{ltb-true, ltb-false, eq-eqb, ne_eqb, lt-ltb, le-ltb}
 use Rattle.geom.specs.Listing.{digit, decimal, decimal_before, hexadecimal}
 use Rattle.geom.specs.Memory.{first_of}
-use Rattle.division.specs.Writing.{written}
-use Rattle.division.proofs.Rows.{written_none, length_written}
-use Rattle.listing.specs.Text.{Put}
 
 -- ---- digits
 
@@ -81,111 +76,6 @@ decimal_large n l =
     before_large n n [] l
     ∙ ap (λ (k : ℕ). decimal_before k (n / 10) (digit (n % 10) ∷ [])) e
     ∙ before_is n (n - 1) (n / 10) (digit (n % 10) ∷ []) (omega arith) (omega arith)
-
--- ---- how many digits
-
--- so many digits are counted, and the rest is left
-pub record Counting (n rest count : ℕ) : Type 0 where
-  pub small : count + rest ≤ n + 1
-  pub sum : count + length (decimal rest) ≡ length (decimal n) + 1
-
-pub counting_start : (n : ℕ) → Counting n n 1
-counting_start n = record { small = omega arith; sum = omega arith }
-
-pub counting_on : {n rest count : ℕ} → Counting n rest count → 10 ≤ rest → Counting n (rest / 10) (count + 1)
-counting_on {n} {rest} {count} m l =
-    record {
-      small = omega (arith, m.small);
-      sum = omega (arith, m.sum, ap length (decimal_large rest l), length-append (decimal (rest / 10)) (digit (rest % 10) ∷ []));
-    }
-
-pub counting_done : {n rest count : ℕ} → Counting n rest count → rest < 10 → count ≡ length (decimal n)
-counting_done {n} {rest} {count} m l = omega (arith, m.sum, ap length (decimal_small rest l))
-
--- ---- from the last digit to the first
-
--- one byte before what is written
-written_before : (old : List ℕ) (i v : ℕ) (out : List ℕ) → suc i + length out ≤ length old → set (written old (suc i) out) i v ≡ written old i (v ∷ out)
-unfolding written
-written_before old i v out l =
-    let front = take i old in
-    let rest = out ++ drop (suc i + length out) old in
-    let e : i + suc (length out) ≡ suc i + length out = omega arith in
-    ap (λ (r : List ℕ). set r i v) (append_assoc (take (suc i) old) out (drop (suc i + length out) old))
-    ∙ ap (λ (r : List ℕ). set (r ++ rest) i v) (take-suc old i v (omega arith))
-    ∙ ap (λ (r : List ℕ). set r i v) (append_assoc front (get_or old i v ∷ []) rest)
-    ∙ set_at front (get_or old i v) rest v i (length-take-le i old (omega arith))
-    ∙ sym (ap (λ (k : ℕ). front ++ (v ∷ out) ++ drop k old) e ∙ append_assoc front (v ∷ out) (drop (suc i + length out) old))
-
--- the digits behind the rest stand in the buffer from the place i on
-pub record Backing (n at : ℕ) (old : List ℕ) (rest i : ℕ) (out : List ℕ) : Type 0 where
-  pub fits : at + length (decimal n) ≤ length old
-  pub tail : List ℕ
-  pub is : decimal n ≡ decimal rest ++ tail
-  pub place : i ≡ at + length (decimal rest)
-  pub bytes : out ≡ written old i tail
-
-module _ (n at : ℕ) (old : List ℕ) where
-  pub backing_start : at + length (decimal n) ≤ length old → Backing n at old n (at + length (decimal n)) old
-  backing_start l =
-      record {
-        fits = l;
-        tail = [];
-        is = sym (append-nil (decimal n));
-        place = refl;
-        bytes = sym (written_none old (at + length (decimal n)) l);
-      }
-
-  module _ {rest i : ℕ} {out : List ℕ} (m : Backing n at old rest i out) where
-    ends : i + length m.tail ≤ length old
-    ends = omega (arith, m.fits, m.place, ap length m.is, length-append (decimal rest) m.tail)
-
-    pub backing_long : length out ≡ length old
-    backing_long = ap length m.bytes ∙ length_written old i m.tail ends
-
-    -- a digit of more than one
-    module _ (l : 10 ≤ rest) where
-      place_more : i ≡ suc (at + length (decimal (rest / 10)))
-      place_more = omega (arith, m.place, ap length (decimal_large rest l), length-append (decimal (rest / 10)) (digit (rest % 10) ∷ []))
-
-      pub backing_place : (1 ≤ i) × (i - 1 < length out)
-      backing_place = (omega (arith, place_more), omega (arith, place_more, ends, backing_long))
-
-      pub backing_on : (v : ℕ) → v ≡ digit (rest % 10) → Backing n at old (rest / 10) (i - 1) (set out (i - 1) v)
-      backing_on v e =
-          let j : i ≡ suc (i - 1) = omega (arith, place_more) in
-          record {
-            fits = m.fits;
-            tail = v ∷ m.tail;
-            is =
-                m.is
-                ∙ ap (λ (r : List ℕ). r ++ m.tail) (decimal_large rest l)
-                ∙ append_assoc (decimal (rest / 10)) (digit (rest % 10) ∷ []) m.tail
-                ∙ ap (λ (d : ℕ). decimal (rest / 10) ++ d ∷ m.tail) (sym e);
-            place = omega (arith, place_more);
-            bytes =
-                ap (λ (w : List ℕ). set w (i - 1) v) (m.bytes ∙ ap (λ (k : ℕ). written old k m.tail) j)
-                ∙ written_before old (i - 1) v m.tail (omega (arith, ends));
-          }
-
-    -- the first digit
-    module _ (l : rest < 10) where
-      last_place : i ≡ suc at
-      last_place = omega (arith, m.place, ap length (decimal_small rest l))
-
-      pub backing_last : at < length out
-      backing_last = omega (arith, last_place, ends, backing_long)
-
-      pub backing_done : (v r : ℕ) → v ≡ digit rest → r ≡ at + length (decimal n) → Put at (decimal n) old (set out at v) r
-      backing_done v r e p =
-          record {
-            next = p;
-            bytes =
-                ap (λ (w : List ℕ). set w at v) (m.bytes ∙ ap (λ (k : ℕ). written old k m.tail) last_place)
-                ∙ written_before old at v m.tail (omega (arith, last_place, ends))
-                ∙ ap (λ (d : ℕ). written old at (d ∷ m.tail)) e
-                ∙ ap (written old at) (sym (m.is ∙ ap (λ (r : List ℕ). r ++ m.tail) (decimal_small rest l)));
-          }
 
 -- ---- bits
 

@@ -2,7 +2,7 @@
 -- Assumes nothing.
 use mathlib.Core.Path.{◌≡◌, refl, sym, ◌∙◌, ap, ap₂}
 use mathlib.Core.List.{List, [], ◌∷◌, ◌++◌, flat_map, append_assoc, append-nil}
-use Prim.Native.Nat.{ℕ, zero, suc, ◌+◌, ◌-◌, ◌*◌, ◌<◌, ◌≤◌}
+use Prim.Native.Nat.{ℕ, zero, suc, ◌+◌, ◌-◌, ◌*◌, ◌/◌, ◌%◌, ◌<◌, ◌≤◌}
 use native.Mathlib.Omega.{arith}
 use native.Mathlib.Nat.{add-zero}
 use native.Mathlib.Numerals.{add-one}
@@ -10,7 +10,7 @@ use lib.Ieee.{Float, binary32, to_bits}
 use lib.ListN.{length, get_or, take, drop}
 use Rattle.numbers.specs.Binary32 as Binary32
 use Rattle.geom.specs.declared.parity.Parity.{Parity}
-use Rattle.geom.specs.Listing.{SPACE, NEWLINE, decimal, hexadecimal, spaced, bits, numbers, letter, vertex_line, point_line, element_line, curve_line}
+use Rattle.geom.specs.Listing.{SPACE, NEWLINE, digit, decimal, hexadecimal, spaced, bits, numbers, letter, vertex_line, point_line, element_line, curve_line}
 use Rattle.geom.specs.Memory.{first_of, four_row, vertex_row_in, element_row, element_of, parity_of}
 use Rattle.geom.specs.Refusals.{curve_lengths}
 use Rattle.judge.specs.Words.{word_at, Column}
@@ -19,6 +19,7 @@ use Rattle.division.specs.Threads.{curve_at}
 use Rattle.division.proofs.Rows.{first_of_part}
 use Rattle.division.proofs.Winding.{start_of, start_suc, start_grows}
 use Rattle.listing.specs.Text.{together, coordinate_text, vertex_text, number_text, letter_text, line_text, point_text, element_text, curve_text}
+use Rattle.listing.proofs.Numerals.{decimal_small, decimal_large}
 use Rattle.listing.proofs.Texts.{joined}
 
 -- ---- texts one after the other
@@ -129,6 +130,16 @@ module _ (words steps : List ℕ) (i start count : ℕ) (e : start ≡ start_of 
       ∙ ap (λ (k : ℕ). line_text 99 steps 2 (2 * start) k (2 * start + 1) (k - 1)) (sym w)
       ∙ ap (λ (k : ℕ). line_text 99 steps 2 (2 * start) count (2 * start + 1) k) (sym f)
 
+-- ---- a number
+
+pub digit_part : (n glyph : ℕ) → n < 10 → glyph ≡ digit n → decimal n ≡ joined ((glyph ∷ []) ∷ [])
+unfolding joined
+digit_part n glyph l e = decimal_small n l ∙ ap (λ (d : ℕ). d ∷ []) (sym e)
+
+pub decimal_parts : (n glyph : ℕ) → 10 ≤ n → glyph ≡ digit (n % 10) → decimal n ≡ joined (decimal (n / 10) ∷ (glyph ∷ []) ∷ [])
+unfolding joined
+decimal_parts n glyph l e = decimal_large n l ∙ ap (λ (d : ℕ). decimal (n / 10) ++ d ∷ []) (sym e)
+
 -- ---- a word after a space
 
 pub spaced_parts : (word : List ℕ) → spaced word ≡ joined ((SPACE ∷ []) ∷ word ∷ [])
@@ -141,16 +152,3 @@ bits_parts c pattern e = ap (λ (n : ℕ). spaced (hexadecimal n)) (sym e) ∙ s
 pub length_hexadecimal : (n : ℕ) → length (hexadecimal n) ≡ 8
 unfolding hexadecimal
 length_hexadecimal n = refl
-
-pub letter_even : (word : ℕ) → word ≡ 0 → letter (parity_of word) ≡ joined ((SPACE ∷ []) ∷ (101 ∷ []) ∷ [])
-unfolding joined
-letter_even word e = rw e refl
-
-pub letter_odd : (word : ℕ) → (word ≡ 0 → ⊥) → letter (parity_of word) ≡ joined ((SPACE ∷ []) ∷ (111 ∷ []) ∷ [])
-unfolding joined
-letter_odd zero n = absurd (n refl)
-letter_odd (suc k) n = refl
-
-pub length_letter : (word : ℕ) → length (letter (parity_of word)) ≡ 2
-length_letter zero = refl
-length_letter (suc k) = refl

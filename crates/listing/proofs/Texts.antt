@@ -1,19 +1,21 @@
--- Texts written one after the other into a lent buffer: what stands there, that the next has room, and a loop that writes one text a turn.
+-- Texts added one after the other to a text that grows in a lent buffer: what stands there, that the next has room, and a loop that adds one text a turn.
 -- Assumes nothing.
 use mathlib.Core.Path.{◌≡◌, refl, sym, ◌∙◌, ap}
 use mathlib.Core.Logic.{⊎_elim}
 use mathlib.Core.List.{List, [], ◌∷◌, ◌++◌, append_assoc, append-nil}
-use Prim.Native.Nat.{ℕ, zero, suc, ◌+◌, ◌<◌, ◌≤◌}
+use Prim.Native.Nat.{ℕ, zero, suc, ◌+◌, ◌-◌, ◌<◌, ◌≤◌}
 use native.Mathlib.Omega.{arith}
 use native.Mathlib.Nat.{eq-or-lt_of_le}
 use native.Mathlib.Numerals.{add-one}
-use lib.ListN.{length, get_or, set, length-append}
+use borrow.Rule.Slice.PartMut.{put_mid}
+use lib.ListN.{length, set, take, drop, length-append}
+use lib.Seq.{drop-drop}
 use Rattle.geom.specs.Memory.{first_of}
 use Rattle.geom.proofs.Rows.{length_first_of}
-use Rattle.geom.proofs.Back.{points_back}
 use Rattle.division.specs.Writing.{written}
 use Rattle.division.proofs.Rows.{written_none, written_set, written_more, length_written, Copying, copying_done}
-use Rattle.listing.specs.Text.{Put, together}
+use Rattle.listing.specs.declared.lines.Text.{Text}
+use Rattle.listing.specs.Text.{Put, Adds, HasRoom, together}
 
 -- ---- one text after another
 
@@ -50,17 +52,33 @@ put_byte old at b l =
           ∙ written_set old at [] b (omega arith);
     }
 
+-- bytes that were copied at once
+pub put_copied : (old text : List ℕ) (at : ℕ) {copy : List ℕ} → copy ≡ text → Put at text old (put_mid at ((at + length text) - at) old copy) (at + length text)
+unfolding written
+put_copied old text at {copy} e =
+    let n : (at + length text) - at ≡ length text = omega arith in
+    let behind : drop ((at + length text) - at) (drop at old) ≡ drop (at + length text) old =
+    ap (λ (k : ℕ). drop k (drop at old)) n ∙ drop-drop (length text) at old in
+    let all : put_mid at ((at + length text) - at) old copy ≡ take at old ++ (text ++ drop (at + length text) old) =
+    λ i. take at old ++ (e i ++ behind i) in
+    record { next = refl; bytes = all ∙ sym (append_assoc (take at old) text (drop (at + length text) old)) }
+
 -- bytes that a loop wrote one by one
-pub put_copied :
+pub put_looped :
     {old words : List ℕ} {at n i : ℕ} {f : ℕ → ℕ} (text : List ℕ) (r : ℕ) → Copying old at f n i words → n ≤ i → first_of f n ≡ text → r ≡ at + n
     → Put at text old words r
-put_copied {n = n} {f = f} text r c l e p =
+put_looped {n = n} {f = f} text r c l e p =
     record { next = omega (arith, length_first_of f n, ap length e); bytes = copying_done text c l e }
 
--- a list by its places
-pub places : (text : List ℕ) → first_of (λ (j : ℕ). get_or text j 0) (length text) ≡ text
-places text =
-    ap (λ (t : List ℕ). first_of (λ (j : ℕ). get_or t j 0) (length text)) (sym (append-nil text)) ∙ points_back text []
+-- ---- what a text that grows gains
+
+pub adds_none : (old : Text) → old.at ≤ length old.out.now → Adds [] old old
+adds_none old l = record { same = refl; put = record { next = omega arith; bytes = sym (written_none old.out.now old.at l) } }
+
+pub adds_more :
+    {text more : List ℕ} {old now after : Text} → Adds text old now → HasRoom text old → HasRoom (text ++ more) old → Adds more now after
+    → Adds (text ++ more) old after
+adds_more p fits l q = record { same = q.same ∙ p.same; put = put_more p.put fits l q.put }
 
 -- ---- a straight line of texts
 
@@ -68,70 +86,59 @@ unfoldable pub joined : List (List ℕ) → List ℕ
 joined [] = []
 joined (text ∷ texts) = text ++ joined texts
 
--- a part of the whole text stands in the buffer up to the place r, and these texts are still to come
-pub record Going (at : ℕ) (whole old out : List ℕ) (r : ℕ) (rest : List (List ℕ)) : Type 0 where
-  pub fits : at + length whole ≤ length old
+-- a part of the whole text was added, and these texts are still to come
+pub record Going (whole : List ℕ) (old now : Text) (rest : List (List ℕ)) : Type 0 where
+  pub fits : HasRoom whole old
   pub made : List ℕ
   pub is : whole ≡ made ++ joined rest
-  pub put : Put at made old out r
+  pub adds : Adds made old now
 
-module _ (at : ℕ) (old : List ℕ) where
-  pub going_start : {whole : List ℕ} {texts : List (List ℕ)} → whole ≡ joined texts → at + length whole ≤ length old → Going at whole old old at texts
-  going_start e l =
-      record {
-        fits = l;
-        made = [];
-        is = e;
-        put = record { next = omega arith; bytes = sym (written_none old at (omega arith)) };
-      }
+pub going_start : (old : Text) {whole : List ℕ} {texts : List (List ℕ)} → whole ≡ joined texts → HasRoom whole old → Going whole old old texts
+going_start old e l =
+    record {
+      fits = l;
+      made = [];
+      is = e;
+      adds = adds_none old (omega arith);
+    }
 
-module _ {at : ℕ} {whole old : List ℕ} where
-  module _ {out : List ℕ} {r : ℕ} where
-    so_far : {rest : List (List ℕ)} (g : Going at whole old out r rest) → at + length g.made ≤ length old
-    so_far {rest} g = omega (arith, g.fits, ap length g.is, length-append g.made (joined rest))
+module _ {whole : List ℕ} {old now : Text} where
+  so_far : {rest : List (List ℕ)} (g : Going whole old now rest) → HasRoom g.made old
+  so_far {rest} g = omega (arith, g.fits, ap length g.is, length-append g.made (joined rest))
 
-    pub going_long : {rest : List (List ℕ)} → Going at whole old out r rest → length out ≡ length old
-    going_long g = put_long g.put (so_far g)
-
-    module _ {text : List ℕ} {rest : List (List ℕ)} (g : Going at whole old out r (text ∷ rest)) where
-      is_next : whole ≡ (g.made ++ text) ++ joined rest
-      unfolding joined
-      is_next = g.is ∙ sym (append_assoc g.made text (joined rest))
-
-      room_next : at + length (g.made ++ text) ≤ length old
-      room_next = omega (arith, g.fits, ap length is_next, length-append (g.made ++ text) (joined rest))
-
-      pub going_room : r + length text ≤ length out
-      going_room = put_room g.put (so_far g) text room_next
-
-      pub going_on : {after : List ℕ} {s : ℕ} → Put r text out after s → Going at whole old after s rest
-      going_on {after} {s} p =
-          record { fits = g.fits; made = g.made ++ text; is = is_next; put = put_more g.put (so_far g) room_next p }
-
-    -- the next text, by another name
-    pub going_as : {text next : List ℕ} {rest : List (List ℕ)} → text ≡ next → Going at whole old out r (text ∷ rest) → Going at whole old out r (next ∷ rest)
-    going_as {rest = rest} e g = rw e at g
-
-    pub going_done : Going at whole old out r [] → Put at whole old out r
+  module _ {text : List ℕ} {rest : List (List ℕ)} (g : Going whole old now (text ∷ rest)) where
+    is_next : whole ≡ (g.made ++ text) ++ joined rest
     unfolding joined
-    going_done g =
-        let e : g.made ≡ whole = sym (g.is ∙ append-nil g.made) in
-        rw e at g.put
+    is_next = g.is ∙ sym (append_assoc g.made text (joined rest))
 
--- from the start of the buffer
-pub going_begin : (old : List ℕ) {whole : List ℕ} {texts : List (List ℕ)} → whole ≡ joined texts → length whole ≤ length old → Going 0 whole old old 0 texts
-going_begin old e l = going_start 0 old e (omega arith)
+    room_next : HasRoom (g.made ++ text) old
+    room_next = omega (arith, g.fits, ap length is_next, length-append (g.made ++ text) (joined rest))
 
-pub begin_room : {whole old text : List ℕ} {rest : List (List ℕ)} → Going 0 whole old old 0 (text ∷ rest) → length text ≤ length old
-begin_room g = omega (arith, going_room g)
+    pub going_room : HasRoom text now
+    going_room = put_room g.adds.put (so_far g) text room_next
 
--- ---- a loop that writes one text a turn
+    pub going_on : {after : Text} → Adds text now after → Going whole old after rest
+    going_on {after} p =
+        record { fits = g.fits; made = g.made ++ text; is = is_next; adds = adds_more g.adds (so_far g) room_next p }
 
--- the first i of n texts stand in the buffer
-pub record Lining (text : ℕ → List ℕ) (n start : ℕ) (old : List ℕ) (i at : ℕ) (out : List ℕ) : Type 0 where
-  pub within : i ≤ n
-  pub fits : start + length (together text n) ≤ length old
-  pub put : Put start (together text i) old out at
+  pub going_done : Going whole old now [] → Adds whole old now
+  unfolding joined
+  going_done g =
+      let e : g.made ≡ whole = sym (g.is ∙ append-nil g.made) in
+      rw e at g.adds
+
+-- from the start of a buffer, with the first text added
+pub going_begun :
+    {whole text : List ℕ} {texts : List (List ℕ)} {old now : Text} → Adds text old now → whole ≡ joined (text ∷ texts) → old.at ≡ 0
+    → length whole ≤ length old.out.now → Going whole old now texts
+going_begun {old = old} a e z l = going_on (going_start old e (omega arith)) a
+
+-- ---- a loop that adds one text a turn
+
+-- the first i of n texts were added
+pub record Lining (text : ℕ → List ℕ) (n : ℕ) (old : Text) (i : ℕ) (now : Text) : Type 0 where
+  pub fits : HasRoom (together text n) old
+  pub adds : Adds (together text i) old now
 
 module _ (text : ℕ → List ℕ) where
   together_grows : (i n : ℕ) → i ≤ n → length (together text i) ≤ length (together text n)
@@ -149,38 +156,29 @@ module _ (text : ℕ → List ℕ) where
   unfolding together
   together_on i = rw (add-one i) refl
 
-  pub lining_start : (n start : ℕ) (old : List ℕ) → start + length (together text n) ≤ length old → Lining text n start old 0 start old
+  pub lining_start : (n : ℕ) (old : Text) → HasRoom (together text n) old → Lining text n old 0 old
   unfolding together
-  lining_start n start old l =
-      record {
-        within = omega arith;
-        fits = l;
-        put = record { next = omega arith; bytes = sym (written_none old start (omega arith)) };
-      }
+  lining_start n old l = record { fits = l; adds = adds_none old (omega arith) }
 
-  module _ {n start i at : ℕ} {old out : List ℕ} (m : Lining text n start old i at out) where
-    room : start + length (together text i) ≤ length old
-    room = omega (arith, m.fits, together_grows i n m.within)
-
-    pub lining_long : length out ≡ length old
-    lining_long = put_long m.put room
-
+  module _ {n i : ℕ} {old now : Text} (m : Lining text n old i now) where
     module _ (l : i < n) where
-      next_room : start + length (together text i ++ text i) ≤ length old
+      room : HasRoom (together text i) old
+      room = omega (arith, m.fits, together_grows i n (omega arith))
+
+      next_room : HasRoom (together text i ++ text i) old
       next_room = omega (arith, m.fits, ap length (together_on i), together_grows (i + 1) n (omega arith))
 
       -- the next text, by another name
       module _ {next : List ℕ} (e : text i ≡ next) where
-        pub lining_room : at + length next ≤ length out
-        lining_room = omega (arith, put_room m.put room (text i) next_room, ap length e)
+        pub lining_room : HasRoom next now
+        lining_room = omega (arith, put_room m.adds.put room (text i) next_room, ap length e)
 
-        pub lining_on : {after : List ℕ} {r : ℕ} → Put at next out after r → Lining text n start old (i + 1) r after
-        lining_on {after} {r} q =
+        pub lining_on : {after : Text} → Adds next now after → Lining text n old (i + 1) after
+        lining_on {after} q =
             record {
-              within = omega arith;
               fits = m.fits;
-              put = rw (together_on i) (put_more m.put room next_room (rw e q));
+              adds = rw (together_on i) (adds_more m.adds room next_room (rw e q));
             }
 
-    pub lining_done : n ≤ i → Put start (together text n) old out at
-    lining_done l = let e : i ≡ n = omega (arith, m.within) in rw e at m.put
+    pub lining_done : i ≡ n → Adds (together text n) old now
+    lining_done e = rw e at m.adds

@@ -10,15 +10,16 @@ use Rattle.geom.specs.declared.answer.Sizes.{Sizes}
 use Rattle.geom.specs.declared.vertex.Vertex.{Vertex}
 use Rattle.geom.specs.Book.{Kind}
 use Rattle.geom.specs.Listing.{PASSES, REFUSED, AFTER, NEWLINE, spaced, decimal, listing, refusal, vertex_line, vertex_lines, point_line, element_line, curve_line}
-use Rattle.geom.specs.Memory.{area_corners, volume_corners, first_of, vertex_row, four_row, vertex_row_in, element_row, element_of, curve_row, step_row, curves_of, rows_of, mesh_of}
+use Rattle.geom.specs.Memory.{area_corners, volume_corners, first_of, vertex_row, four_row, vertex_row_in, element_row, element_of, curve_row, step_row, curves_of, rows_of, mesh_of, Bench}
 use Rattle.geom.proofs.Rows.{length_first_of, map_first_of}
 use Rattle.judge.specs.Words.{Parts}
-use Rattle.judge.specs.Judged.{bench}
+use Rattle.division.specs.Writing.{written}
 use Rattle.division.proofs.Rows.{written_over}
 use Rattle.division.proofs.Winding.{curve_in, curves_places}
-use Rattle.listing.specs.Text.{Put, together, vertex_text, point_text, element_text, curve_text}
-use Rattle.listing.specs.Printed.{Printed, heading_of, listed}
-use Rattle.listing.proofs.Texts.{joined}
+use Rattle.listing.specs.declared.lines.Text.{Text}
+use Rattle.listing.specs.Text.{Adds, HasRoom, together, vertex_text, point_text, element_text, curve_text}
+use Rattle.listing.specs.Printed.{Printed, heading_of, listed, with_marks, Stated}
+use Rattle.listing.proofs.Texts.{joined, Going, going_start, going_room, going_begun}
 use Rattle.listing.proofs.Parts.{together_flat}
 
 -- ---- the lines of a list
@@ -67,41 +68,71 @@ unfolding joined
 join_all p q n v a b c d e = simp (append_assoc, append-nil)
 
 module _
-    (passes : ℕ) (kind : Kind) (s : Sizes) (positions : List Float) (points lines areas volumes curves steps : List ℕ)
-    (parts : Parts curves s.curves steps s.curve_vertices) where
+    (passes : ℕ) (kind : Kind) (s : Sizes) (b : Bench)
+    (parts : Parts b.curves s.curves b.curve_vertices s.curve_vertices) where
   pub listing_parts :
       (marks : List ℕ)
-      → listed passes kind s (bench positions marks points lines areas volumes curves steps)
+      → listed passes kind s (with_marks marks b)
       ≡ joined
       (heading_of passes
-      ∷ together (vertex_text positions) s.vertices
-      ∷ together (point_text points) s.points
-      ∷ together (element_text 108 lines 2) s.lines
-      ∷ together (element_text 97 areas (area_corners kind)) s.areas
-      ∷ together (element_text 115 volumes (volume_corners kind)) s.volumes
-      ∷ together (curve_text curves steps) s.curves
+      ∷ together (vertex_text b.positions) s.vertices
+      ∷ together (point_text b.points) s.points
+      ∷ together (element_text 108 b.lines 2) s.lines
+      ∷ together (element_text 97 b.areas (area_corners kind)) s.areas
+      ∷ together (element_text 115 b.volumes (volume_corners kind)) s.volumes
+      ∷ together (curve_text b.curves b.curve_vertices) s.curves
       ∷ [])
   unfolding listing mesh_of rows_of
   listing_parts marks =
-      let v = vertices_together positions marks s.vertices in
-      let p = sym (together_flat point_line (λ (i : ℕ). get_or points i 0) s.points) in
-      let l = elements_together 108 2 lines s.lines in
-      let a = elements_together 97 (area_corners kind) areas s.areas in
-      let w = elements_together 115 (volume_corners kind) volumes s.volumes in
-      let c = curves_together curves steps s.curves s.curve_vertices parts in
+      let v = vertices_together b.positions marks s.vertices in
+      let p = sym (together_flat point_line (λ (i : ℕ). get_or b.points i 0) s.points) in
+      let l = elements_together 108 2 b.lines s.lines in
+      let a = elements_together 97 (area_corners kind) b.areas s.areas in
+      let w = elements_together 115 (volume_corners kind) b.volumes s.volumes in
+      let c = curves_together b.curves b.curve_vertices s.curves s.curve_vertices parts in
       (λ i. PASSES ++ spaced (decimal passes) ++ (NEWLINE ∷ v i) ++ p i ++ l i ++ a i ++ w i ++ c i)
       ∙ join_all PASSES (spaced (decimal passes)) (NEWLINE ∷ []) _ _ _ _ _ _
 
   -- with any marks it is the same
   pub any_marks :
       (marks others : List ℕ)
-      → listed passes kind s (bench positions marks points lines areas volumes curves steps)
-      ≡ listed passes kind s (bench positions others points lines areas volumes curves steps)
+      → listed passes kind s (with_marks marks b)
+      ≡ listed passes kind s (with_marks others b)
   any_marks marks others = listing_parts marks ∙ sym (listing_parts others)
 
--- a text from the buffer's start
-pub put_printed : {text old new : List ℕ} {r : ℕ} → Put 0 text old new r → Printed text old new r
-put_printed {text} {old} p = record { length = omega (arith, p.next); bytes = p.bytes ∙ written_over old text }
+-- from the first line on
+module _
+    {passes : ℕ} {kind : Kind} {s : Sizes} {b : Bench} (old : Text)
+    (r : Stated passes kind s b old.out.now) (z : old.at ≡ 0) where
+  pub heading_room : HasRoom (heading_of passes) old
+  heading_room = going_room (going_start old (listing_parts passes kind s b r.parts []) (omega (arith, r.room)))
+
+module _
+    {passes : ℕ} {kind : Kind} {s : Sizes} {b : Bench} {old now : Text}
+    (a : Adds (heading_of passes) old now) (r : Stated passes kind s b old.out.now) (z : old.at ≡ 0) where
+  pub listing_begun :
+      (area volume : ℕ) → area ≡ area_corners kind → volume ≡ volume_corners kind → (marks : List ℕ)
+      → Going (listed passes kind s (with_marks marks b)) old now
+      (together (vertex_text b.positions) s.vertices
+      ∷ together (point_text b.points) s.points
+      ∷ together (element_text 108 b.lines 2) s.lines
+      ∷ together (element_text 97 b.areas area) s.areas
+      ∷ together (element_text 115 b.volumes volume) s.volumes
+      ∷ together (curve_text b.curves b.curve_vertices) s.curves
+      ∷ [])
+  listing_begun area volume e f marks =
+      rw (e, f)
+      (going_begun a (listing_parts passes kind s b r.parts marks) z
+      (rw (any_marks passes kind s b r.parts [] marks) at r.room))
+
+-- a text from the buffer's start, which is lent on
+pub printed_from :
+    {text out : List ℕ} {old now : Text} → Adds text old now → old.at ≡ 0 → out ≡ now.out.now → Printed text old.out.now out now.at
+printed_from {text} {out} {old} {now} a z e =
+    record {
+      length = omega (arith, a.put.next);
+      bytes = e ∙ a.put.bytes ∙ ap (λ (k : ℕ). written old.out.now k text) z ∙ written_over old.out.now text;
+    }
 
 -- ---- the first line, and the line of a refusal
 

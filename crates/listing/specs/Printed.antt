@@ -1,7 +1,7 @@
 -- The listing of a mesh in memory: what is asked of the words and of the buffer, and what stands in the buffer afterwards.
 -- Says nothing of which words are accepted.
 -- Assumes nothing.
-use Rattle.std.specs.Prelude.{◌≡◌, List, [], ◌∷◌, ◌++◌, ℕ, ◌*◌, ◌≤◌, Float, length}
+use Rattle.std.specs.Prelude.{◌≡◌, List, [], ◌∷◌, ◌++◌, ℕ, ◌*◌, ◌≤◌, length}
 use Rattle.geom.specs.declared.answer.Sizes.{Sizes}
 use Rattle.geom.specs.Book.{Kind}
 use Rattle.geom.specs.Listing.{PASSES, NEWLINE, spaced, decimal, listing}
@@ -22,11 +22,14 @@ heading_of passes = PASSES ++ spaced (decimal passes) ++ NEWLINE ∷ []
 abbrev pub listed : ℕ → Kind → Sizes → Bench → List ℕ
 listed passes kind s b = listing passes (mesh_of (rows_of kind s b))
 
+-- a bench with other marks
+abbrev pub with_marks : List ℕ → Bench → Bench
+with_marks marks b = bench b.positions marks b.points b.lines b.areas b.volumes b.curves b.curve_vertices
+
 -- The rows that are stated stand in their slices, the curves' lengths add up, and the text has room. No mark is printed, so any marks will do.
-pub record Stated
-    (passes : ℕ) (kind : Kind) (s : Sizes) (positions : List Float) (points lines areas volumes curves steps out : List ℕ) : Type 0 where
-  pub vertices : 4 * s.vertices ≤ length positions
-  pub point : s.points ≤ length points
-  pub elements : Listed kind s lines areas volumes
-  pub parts : Parts curves s.curves steps s.curve_vertices
-  pub room : length (listed passes kind s (bench positions [] points lines areas volumes curves steps)) ≤ length out
+pub record Stated (passes : ℕ) (kind : Kind) (s : Sizes) (b : Bench) (out : List ℕ) : Type 0 where
+  pub vertices : 4 * s.vertices ≤ length b.positions
+  pub point : s.points ≤ length b.points
+  pub elements : Listed kind s b.lines b.areas b.volumes
+  pub parts : Parts b.curves s.curves b.curve_vertices s.curve_vertices
+  pub room : length (listed passes kind s (with_marks [] b)) ≤ length out

@@ -1,19 +1,29 @@
 -- What a function answers that writes a text into a lent buffer, and texts that stand one after the other.
 -- Says nothing of which text a mesh has, which is the definition's of `geom`.
 -- Assumes nothing.
-use Rattle.std.specs.Prelude.{◌≡◌, List, [], ◌∷◌, ◌++◌, ℕ, zero, suc, ◌+◌, Float, length, get_or}
+use Rattle.std.specs.Prelude.{◌≡◌, List, [], ◌∷◌, ◌++◌, ℕ, zero, suc, ◌+◌, ◌≤◌, Float, length, get_or}
 use Rattle.numbers.specs.Binary32 as Binary32
 use Rattle.geom.specs.Listing.{NEWLINE, decimal, spaced, bits, letter, vertex_line, point_line, element_line, curve_line}
 use Rattle.geom.specs.Memory.{first_of, vertex_row, element_row, element_of, curve_row, parity_of}
 use Rattle.geom.specs.Refusals.{curve_lengths}
 use Rattle.judge.specs.Words.{word_at}
 use Rattle.division.specs.Writing.{written}
+use Rattle.listing.specs.declared.lines.Text as Lines
 use Rattle.division.specs.Threads.{curve_at}
 
 -- a text stands in the buffer from the place `at` on, and r is the place after it
 pub record Put (at : ℕ) (text old new : List ℕ) (r : ℕ) : Type 0 where
   pub next : r ≡ at + length text
   pub bytes : new ≡ written old at text
+
+-- a text that grows goes on in the same buffer, behind what was written
+pub record Adds (text : List ℕ) (old new : Lines.Text) : Type 0 where
+  pub same : new.out.ghost_name ≡ old.out.ghost_name
+  pub put : Put old.at text old.out.now new.out.now new.at
+
+-- and has room there
+abbrev pub HasRoom : List ℕ → Lines.Text → Type 0
+HasRoom text now = now.at + length text ≤ length now.out.now
 
 -- texts 0, 1, .. one after the other
 unfoldable pub together : (ℕ → List ℕ) → ℕ → List ℕ

@@ -24,6 +24,7 @@ use Rattle.geom.specs.Elements as Elements
 use Rattle.geom.specs.Refusals.{curve_lengths}
 use Rattle.geom.specs.Between.{area_rule, volume_rule}
 use Rattle.book.specs.Cells.{pairs_of}
+use Rattle.book.specs.Answers.{Ready}
 use Rattle.geom.proofs.Well.{pass_is}
 use Rattle.division.specs.Writing.{Listed}
 use Rattle.division.specs.Threads.{curves_in, Wound}
@@ -154,25 +155,26 @@ module _ (kind : Kind) (base room : ℕ) (s c : Sizes) (b : Slices) (start : Boo
   -- ---- the whole
 
   pub whole :
-      {new₁ after₁ new₂ after₂ new₃ after₃ new₄ after₄ new₅ after₅ book₁ book₂ book₃ book₄ : List ℕ} {l a v n one two three all : ℕ}
+      {new₁ after₁ new₂ after₂ new₃ after₃ new₄ after₄ new₅ after₅ book₁ book₂ book₃ book₄ words : List ℕ} {l a v n one two three all : ℕ}
       → curve_lengths (first_of (curve_row b.curves) s.curves) ≡ s.curve_vertices
       → Listed base room c.lines after_lines new₁ after₁ book₁ l one
       → Listed base room c.areas (each (area_rule kind base) (pairs_of book₁ one) (lists_of kind s b).areas) new₂ after₂ book₂ a two
       → Listed base room c.volumes (each (volume_rule kind base) (pairs_of book₂ two) (lists_of kind s b).volumes) new₃ after₃ book₃ v three
       → Wound base room c.curve_vertices (each (curve kind base) (pairs_of book₃ three) (curves_in b.curves b.steps s.curves)) new₄ after₄ new₅ after₅ book₄ n all
-      → Made base room s c went (slices new₁ new₂ new₃ new₄ new₅) (slices after₁ after₂ after₃ after₄ after₅) book₄
+      → book₄ ≡ words
+      → Made base room s c went (slices new₁ new₂ new₃ new₄ new₅) (slices after₁ after₂ after₃ after₄ after₅) words
       (record { vertices = base + all; points = s.points; lines = l; areas = a; volumes = v; curves = s.curves; curve_vertices = n })
       all
   unfolding pass_by
-  whole {new₁} {after₁} {new₂} {after₂} {new₃} {after₃} {new₄} {after₄} {new₅} {after₅} {book₁} {book₂} {book₃} {book₄} {l} {a} {v} {n} {one} {two} {three} {all} h L₁ L₂ L₃ L₄ =
+  whole {new₁} {after₁} {new₂} {after₂} {new₃} {after₃} {new₄} {after₄} {new₅} {after₅} {book₁} {book₂} {book₃} {book₄} {words} {l} {a} {v} {n} {one} {two} {three} {all} h L₁ L₂ L₃ L₄ same =
       let M₂ = subst (λ (m : Book.Made Element). Listed base room c.areas m new₂ after₂ book₂ a two) (areas_are L₁.entries) L₂ in
       let M₃ = subst (λ (m : Book.Made Element). Listed base room c.volumes m new₃ after₃ book₃ v three) (volumes_are L₁.entries L₂.entries) L₃ in
       let M₄ = subst (λ (m : Book.Made Curve). Wound base room c.curve_vertices m new₄ after₄ new₅ after₅ book₄ n all) (curves_are L₁.entries L₂.entries L₃.entries h) L₄ in
       let t : Sizes = record { vertices = base + all; points = s.points; lines = l; areas = a; volumes = v; curves = s.curves; curve_vertices = n } in
-      subst (λ (w : Went). Made base room s c w (slices new₁ new₂ new₃ new₄ new₅) (slices after₁ after₂ after₃ after₄ after₅) book₄ t all) (sym (pass_is kind base before))
+      subst (λ (w : Went). Made base room s c w (slices new₁ new₂ new₃ new₄ new₅) (slices after₁ after₂ after₃ after₄ after₅) words t all) (sym (pass_is kind base before))
       (record {
-        ready = M₄.ready;
-        entries = M₄.entries;
+        ready = subst (Ready base room all) same M₄.ready;
+        entries = ap (λ (k : List ℕ). pairs_of k all) (sym same) ∙ M₄.entries;
         counts =
             record {
               vertices = refl;

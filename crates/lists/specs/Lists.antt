@@ -1,9 +1,11 @@
 -- The lists of a bench in memory, and what a function answers that makes a pass over them.
 -- Says nothing of vertices and points, which stay with the vertex rules.
 -- Assumes nothing.
-use Rattle.std.specs.Prelude.{◌≡◌, ◌⊎◌, List, map, ℕ, suc, ◌+◌, ◌*◌, ◌^◌, ◌<◌, ◌≤◌, length, get_or}
+use Rattle.std.specs.Prelude.{◌≡◌, ◌⊎◌, List, map, ℕ, suc, ◌+◌, ◌*◌, ◌^◌, ◌<◌, ◌≤◌, length, get_or, Result}
 use Rattle.geom.specs.declared.answer.Sizes.{Sizes}
-use Rattle.geom.specs.Answers.{Ending, whole, stopped, EndsWith}
+use Rattle.geom.specs.declared.bench.Bench as Read
+use Rattle.geom.specs.declared.bench.BenchMut as Written
+use Rattle.geom.specs.Answers.{EndsWith}
 use Rattle.geom.specs.Book.{Kind}
 use Rattle.geom.specs.Elements.{Lists}
 use Rattle.geom.specs.Rules.{Went}
@@ -11,10 +13,10 @@ use Rattle.geom.specs.Passes.{pass}
 use Rattle.geom.specs.Mesh.{curve_vertices_of}
 use Rattle.geom.specs.Memory.{area_corners, volume_corners, first_of, element_row, curve_row, step_row, element_of, curves_of, element_words, curve_words, vertex_words, over}
 use Rattle.geom.specs.Refusals.{curve_lengths}
+use Rattle.book.specs.declared.Full.{Full}
 use Rattle.book.specs.Cells.{pairs_of}
-use Rattle.book.specs.Answers.{Ready}
+use Rattle.book.specs.Answers.{Ready, ending_of}
 use Rattle.lists.specs.declared.Stage.{Stage}
-use Rattle.lists.specs.declared.Stage.TheVariants.{Whole, Full}
 
 -- the slices of the lists that a pass replaces
 pub record Slices : Type 0 where
@@ -27,6 +29,13 @@ pub record Slices : Type 0 where
 abbrev pub slices : List ℕ → List ℕ → List ℕ → List ℕ → List ℕ → Slices
 slices lines areas volumes curves steps =
     record { lines = lines; areas = areas; volumes = volumes; curves = curves; steps = steps }
+
+-- those of a bench that is read, and of one that is written
+abbrev pub slices_of : Read.Bench → Slices
+slices_of b = slices b.lines.now b.areas.now b.volumes.now b.curves.now b.steps.now
+
+abbrev pub slices_on : Written.BenchMut → Slices
+slices_on b = slices b.lines.now b.areas.now b.volumes.now b.curves.now b.steps.now
 
 -- the lists that they stand for, as many entries as are stated: those of geom's `mesh_of (rows_of ..)`
 abbrev pub lists_of : Kind → Sizes → Slices → Lists
@@ -85,6 +94,12 @@ pub record Wrote (w : Went) (new after : Slices) : Type 0 where
   pub curves : after.curves ≡ over new.curves (curve_words w.lists.curves)
   pub steps : after.steps ≡ over new.steps (vertex_words w.lists.curves)
 
+-- what is no list of a pass holds the words that it held
+pub record Still (a b : Written.BenchMut) : Type 0 where
+  pub positions : a.positions.now ≡ b.positions.now
+  pub marks : a.marks.now ≡ b.marks.now
+  pub points : a.points.now ≡ b.points.now
+
 -- the whole pass over the lists
 pub record Made (base room : ℕ) (s cells : Sizes) (w : Went) (new after : Slices) (book : List ℕ) (t : Sizes) (e : ℕ) : Type 0 where
   pub ready : Ready base room e book
@@ -101,15 +116,6 @@ Bursts room cells w =
     ⊎ (cells.volumes < length w.lists.volumes)
     ⊎ (cells.curve_vertices < curve_vertices_of w.lists.curves)
 
--- what `Stage` says: the sizes and how many entries the book has, or refusal 10
-pub record Staged : Type 0 where
-  pub sizes : Sizes
-  pub made : ℕ
-
-abbrev pub stage_of : Stage → Ending Staged
-stage_of (Whole t e) = whole (record { sizes = t; made = e })
-stage_of Full = stopped 10
-
-abbrev pub Told : ℕ → ℕ → Sizes → Sizes → Went → Slices → Slices → List ℕ → Stage → Type 0
+abbrev pub Told : ℕ → ℕ → Sizes → Sizes → Went → Slices → Slices → List ℕ → Result Stage Full → Type 0
 Told base room s cells w new after book r =
-    EndsWith (λ (t : Staged). Made base room s cells w new after book t.sizes t.made) (Bursts room cells w) (stage_of r)
+    EndsWith (λ (t : Stage). Made base room s cells w new after book t.sizes t.made) (Bursts room cells w) (ending_of r)

@@ -265,7 +265,7 @@ gives_end {P} f p = record { gives = go }
   where
     go : (bytes : List ℕ) (x : Figure) (rest : List ℕ) → File.end f bytes ≡ File.read x rest → P x
     go [] x rest e = let g : f ≡ x = cc in subst P g p
-    go (b ∷ bytes) x rest e = let z : ◌≡◌ {A = ℕ} 0 1 = cc in absurd (omega arith)
+    go (b ∷ bytes) x rest e = absurd cc
 
 -- A file that was read is a mesh of its kind, in order, within the cells that are lent for that kind.
 pub figure_fine : (lent : Kind → Sizes) → Gives (λ (f : Figure). Fine f.kind (lent f.kind) f.mesh) (File.figure lent)

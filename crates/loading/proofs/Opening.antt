@@ -3,18 +3,18 @@ use mathlib.Core.Path.{◌≡◌, refl, sym, ◌∙◌, ap, subst}
 use mathlib.Core.Bool.{Bool, true, cond}
 use mathlib.Core.List.{List, [], ◌∷◌}
 use Prim.Native.Nat.{ℕ}
-use native.Mathlib.Omega.{arith}
 use lib.Dec.{eqb}
 use lib.ListN.{get_or}
+use Rattle.std.specs.Prelude.{Ok, Err}
 use Rattle.geom.specs.declared.answer.Sizes.{Sizes}
 use Rattle.geom.specs.declared.answer.Reading.{Reading}
 use Rattle.geom.specs.declared.kind.Kind as Kinds
-use Rattle.geom.specs.Answers.{first_due, Opening, mesh_of_kind, no_mesh, judgement_of, opening_of}
+use Rattle.geom.specs.declared.refusal.Refusal.{Refusal}
+use Rattle.geom.specs.Answers.{first_due, Opening, mesh_of_kind, no_mesh, judgement_of, opening_of, number_of}
 use Rattle.geom.specs.Kinds.{kind_of}
 use Rattle.geom.proofs.Within.{within_holds}
-use Rattle.geom.proofs.Equal.{Same, equal_holds}
-use Rattle.loading.specs.declared.Found.{Found}
-use Rattle.loading.specs.declared.Found.TheVariants.{Mesh, Refused}
+use Rattle.geom.specs.Memory.{AsLong}
+use Rattle.geom.proofs.Equal.{equal_holds}
 use Rattle.geom.specs.Book.{Kind}
 use Rattle.geom.specs.File as File
 use Rattle.geom.specs.File.{Read, read, stop, Figure, figure, bench_over, loaded, loaded_by}
@@ -27,7 +27,6 @@ use Rattle.geom.specs.Refusals.{handed_in}
 use Rattle.geom.specs.Sheet.{SHEET_CELLS, SHEET_LENT, refined_by, printed}
 use Rattle.desk.specs.Desk.{kind_said, Lengths, Lent, Ready, Handed}
 use Rattle.desk.proofs.Cells.{same_lengths, cells_lent}
-use Rattle.loading.specs.Loading.{judged_by}
 use Rattle.figure.specs.Entry.{outcome}
 use Rattle.geom.proofs.Standing.{Laid}
 use Rattle.loading.proofs.Readers.{never, judged_on, both_read}
@@ -37,7 +36,7 @@ use Rattle.loading.proofs.Saying.{figure_lent, kind_read}
 
 -- ---- equal benches
 
-kept_lengths : {kind : Kind} {b c : Bench} → Lengths kind b → Same c b → Lengths kind c
+kept_lengths : {kind : Kind} {b c : Bench} → Lengths kind b → AsLong c b → Lengths kind c
 kept_lengths l k =
     record {
       positions = k.positions ∙ l.positions;
@@ -101,15 +100,13 @@ was_read kind first b o (read f rest) e j =
       written = ap (λ (l : File.Loaded). l.bench) e;
     }
 was_read kind first b o (stop n) e j =
-    let z : ◌≡◌ {A = ℕ} 0 1 = cc (j, ap (λ (l : File.Loaded). l.opening.judgement) e) in
-    absurd (omega arith)
+    absurd (cc (j, ap (λ (l : File.Loaded). l.opening.judgement) e))
 
 was_refused :
     (n : ℕ) (first b : Bench) (o : Opening) (r : Read Figure) (depth time : ℕ) → outcome o b ≡ loaded_by first r → no_mesh n ≡ o.judgement
     → refined_by depth time r ≡ refusal n 0
 was_refused n first b o (read f rest) depth time e j =
-    let z : ◌≡◌ {A = ℕ} 0 1 = cc (j, ap (λ (l : File.Loaded). l.opening.judgement) e) in
-    absurd (omega arith)
+    absurd (cc (j, ap (λ (l : File.Loaded). l.opening.judgement) e))
 was_refused n first b o (stop m) depth time e j =
     let k : m ≡ n = cc (j, ap (λ (l : File.Loaded). l.opening.judgement) e) in
     ap (λ (i : ℕ). refusal i 0) k
@@ -118,7 +115,7 @@ was_refused n first b o (stop m) depth time e j =
 
 module _
     (kind : Kind) (file : List ℕ) (first second b : Bench) (s : Sizes) (w : Was kind first b s (figure (λ (k : Kind). SHEET_CELLS) file))
-    (l : Lengths (kind_said file) first) (m : Lengths (kind_said file) second) (k : Same b first) where
+    (l : Lengths (kind_said file) first) (m : Lengths (kind_said file) second) (k : AsLong b first) where
   said : kind_said file ≡ kind
   said = sym (figure_kind (λ (k : Kind). SHEET_CELLS) file _ w.rest w.is)
 
@@ -158,15 +155,15 @@ module _
 -- ---- as the program finds it
 
 module _
-    (file : List ℕ) (first second b : Bench) (o : Reading) (f : Found) (time : ℕ) (out : List ℕ) (ready : Ready time file first second out)
-    (e : outcome (opening_of o) b ≡ loaded first second file) (j : judged_by f ≡ judgement_of o.opened) where
+    {file : List ℕ} {first second other b : Bench} (o : Reading) {time : ℕ} {out : List ℕ} (ready : Ready time file first second out)
+    (e : outcome (opening_of o) b ≡ loaded first other file) (same : other ≡ second) where
   is_loaded : outcome (opening_of o) b ≡ loaded_by first (figure (λ (k : Kind). SHEET_CELLS) file)
-  is_loaded = e ∙ loaded_is first second file ready.laid.first ready.second
+  is_loaded = e ∙ ap (λ (x : Bench). loaded first x file) same ∙ loaded_is first second file ready.laid.first ready.second
 
-  module _ (kind : Kinds.Kind) (is : f ≡ Mesh kind) (k : Same b first) where
+  module _ {kind : Kinds.Kind} (is : o.opened ≡ Ok kind) (k : AsLong b first) where
     was : Was (kind_of kind) first b o.sizes (figure (λ (k : Kind). SHEET_CELLS) file)
-    unfolding opening_of
-    was = was_read (kind_of kind) first b (opening_of o) _ is_loaded (rw is at j)
+    unfolding opening_of judgement_of
+    was = was_read (kind_of kind) first b (opening_of o) _ is_loaded (sym (ap judgement_of is))
 
     pub found_handed : Handed (kind_of kind) o.sizes time b second out
     found_handed = handed (kind_of kind) file first second b o.sizes was ready.laid.first ready.second k ready.laid.lent
@@ -177,7 +174,9 @@ module _
         ≡ refined_by depth time (figure (λ (k : Kind). SHEET_CELLS) file)
     found_text depth = text_is (kind_of kind) file first second b o.sizes was ready.laid.first ready.second k depth time
 
-  pub found_refused : (n depth : ℕ) → f ≡ Refused n → refusal n 0 ≡ refined_by depth time (figure (λ (k : Kind). SHEET_CELLS) file)
-  unfolding opening_of
-  found_refused n depth is =
-      sym (was_refused n first b (opening_of o) (figure (λ (k : Kind). SHEET_CELLS) file) depth time is_loaded (rw is at j))
+  pub found_refused :
+      {why : Refusal} {n : ℕ} (depth : ℕ) → o.opened ≡ Err why → n ≡ number_of why
+      → refusal n 0 ≡ refined_by depth time (figure (λ (k : Kind). SHEET_CELLS) file)
+  unfolding opening_of judgement_of
+  found_refused {why} {n} depth is number =
+      sym (was_refused n first b (opening_of o) (figure (λ (k : Kind). SHEET_CELLS) file) depth time is_loaded (ap no_mesh number ∙ sym (ap judgement_of is)))

@@ -3,7 +3,6 @@ use mathlib.Core.Path.{◌≡◌, refl, ap, subst}
 use mathlib.Core.Bool.{Bool, true, false, cond}
 use mathlib.Core.List.{List, [], ◌∷◌}
 use Prim.Native.Nat.{ℕ, zero, suc}
-use native.Mathlib.Omega.{arith}
 use lib.ListN.{length}
 use Rattle.geom.specs.File.{Read, read, stop, Reader, and_then, ◌>>=◌, done, judged, several}
 use Rattle.geom.specs.Between.{All}
@@ -13,7 +12,7 @@ pub record Gives {A : Type 0} (P : A → Type 0) (field : Reader A) : Type 0 whe
   pub gives : (bytes : List ℕ) (x : A) (rest : List ℕ) → field bytes ≡ read x rest → P x
 
 pub never : {A : Type 0} (n : ℕ) (x : A) (bytes : List ℕ) → stop n ≡ read x bytes → ⊥
-never n x bytes e = let z : ◌≡◌ {A = ℕ} 0 1 = cc in omega arith
+never n x bytes e = cc
 
 pub gives_then :
     {A B : Type 0} {P : A → Type 0} {Q : B → Type 0} (field : Reader A) (next : A → Reader B) → Gives P field

@@ -1,10 +1,8 @@
--- A word of at most 1 as a number: an i32 has it, binary32 has it, and 1 minus twice it is the sign of its parity. Assumes nothing.
+-- A word of at most 1 as a number: an i32 has it, and 1 minus twice it is the sign of its parity. Assumes nothing.
 use mathlib.Core.Path.{◌≡◌, refl}
 use Prim.Native.Nat.{ℕ, zero, suc, ◌≤◌}
 use native.Mathlib.Omega.{arith}
-use lib.Dec.{T}
 use lib.IntN.{pos}
-use lib.Ieee.{binary32, in_float}
 use mir.Syntax.{w32}
 use mir.Val.{to_z}
 use Rattle.numbers.specs.Binary32.{◌⊖◌, ◌⊗◌, one, count}
@@ -15,12 +13,6 @@ pub word_signed : (n : ℕ) → n ≤ 1 → to_z w32 n ≡ pos n
 word_signed zero h = refl
 word_signed (suc zero) h = refl
 word_signed (suc (suc n)) h = absurd (omega arith)
-
-pub word_exact : (n : ℕ) → n ≤ 1 → T (in_float binary32 (pos n))
-unfolding in_float
-word_exact zero h = tt
-word_exact (suc zero) h = tt
-word_exact (suc (suc n)) h = absurd (omega arith)
 
 pub word_sign : (n : ℕ) → n ≤ 1 → one ⊖ count 2 ⊗ count n ≡ sign (parity_of n)
 unfolding sign

@@ -14,9 +14,10 @@ use lib.Seq.{get_or-take, get_or-drop}
 use borrow.Author.Tests.{not-false, ltb-true, leb-true, lt-leb}
 use Rattle.geom.specs.declared.vertex.Vertex.{Vertex}
 use Rattle.geom.specs.declared.answer.Sizes.{Sizes}
-use Rattle.geom.specs.declared.answer.Ended.{Ended}
-use Rattle.geom.specs.declared.answer.Ended.TheVariants.{Finished, Refused}
-use Rattle.geom.specs.Answers.{Verdict, accepted, verdict_of, due, first_due}
+use Rattle.std.specs.Prelude.{Result, Ok, Err}
+use Rattle.geom.specs.declared.refusal.Refusal.{Refusal}
+use Rattle.geom.specs.declared.refusal.Refusal.TheVariants.{Room}
+use Rattle.geom.specs.Answers.{Verdict, accepted, verdict_of, due, first_due, number_of}
 use Rattle.geom.specs.Book.{simplices}
 use Rattle.geom.specs.Memory.{Bench, ElementRow, first_of, element_row, rows_of, over}
 use Rattle.geom.specs.Normals.{Shaded, shaded_by, shading_verdict}
@@ -125,18 +126,18 @@ module _ (s : Sizes) (b : Bench) (e : first_due (handed_in true true simplices s
 
 module _ (width : ℕ) (s : Sizes) (b : Bench) (words out : List Float) where
   -- refused for a list handed in
-  pub refuses : {ended : Ended} {k : ℕ} → verdict_of ended ≡ first_due (handed_in true true simplices s b) → ended ≡ Refused k
+  pub refuses : {ended : Result Unit Refusal} {k : Refusal} → verdict_of ended ≡ first_due (handed_in true true simplices s b) → ended ≡ Err k
       → ◌≡◌ {A = Shaded} (record { verdict = verdict_of ended; out = out }) (shaded_by (shading_verdict width s b out) words out)
   unfolding verdict_of shading_verdict
   refuses {ended} {k} j e =
       let more = due 10 (not (leb s.vertices (length out / width))) ∷ [] in
-      let v = refused_before (handed_in true true simplices s b) more k (sym j ∙ ap verdict_of e) in
+      let v = refused_before (handed_in true true simplices s b) more (number_of k) (sym j ∙ ap verdict_of e) in
       ap (λ (x : Verdict). record { verdict = x; out = out }) (ap verdict_of e) ∙ sym (ap (λ (x : Verdict). shaded_by x words out) v)
 
   module _ (a : first_due (handed_in true true simplices s b) ≡ accepted) where
     -- fewer cells than vertices
     pub short : length out / width < s.vertices
-        → ◌≡◌ {A = Shaded} (record { verdict = verdict_of (Refused 10); out = out }) (shaded_by (shading_verdict width s b out) words out)
+        → ◌≡◌ {A = Shaded} (record { verdict = verdict_of (Err Room); out = out }) (shaded_by (shading_verdict width s b out) words out)
     unfolding verdict_of shading_verdict first_due
     short h =
         let test = leb s.vertices (length out / width) in
@@ -146,7 +147,7 @@ module _ (width : ℕ) (s : Sizes) (b : Bench) (words out : List Float) where
 
     -- enough: every cell is written
     pub fits : s.vertices ≤ length out / width → (after : List Float) → after ≡ over out words
-        → ◌≡◌ {A = Shaded} (record { verdict = verdict_of Finished; out = after }) (shaded_by (shading_verdict width s b out) words out)
+        → ◌≡◌ {A = Shaded} (record { verdict = verdict_of (Ok tt); out = after }) (shaded_by (shading_verdict width s b out) words out)
     unfolding verdict_of
     fits h after e =
         ap (λ (x : List Float). record { verdict = accepted; out = x }) e

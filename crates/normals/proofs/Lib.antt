@@ -1,4 +1,4 @@
--- sums in lent cells: cleared, and an element's normal added to each corner
+-- sums in lent cells: an element's normal added to each corner, and the elements one by one
 pub mod Adding
 -- each sum normalised in place, and the three loops together
 pub mod Settling

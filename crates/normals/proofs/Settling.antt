@@ -11,8 +11,7 @@ use lib.Seq.{sets, length-sets}
 use Rattle.geom.specs.Memory.{first_of, over}
 use Rattle.geom.proofs.Rows.{length_first_of, first_of_same}
 use Rattle.vertices.proofs.Written.{laid_on, laid_over, length_flat}
-use Rattle.normals.specs.Cells.{Cleared, Holds}
-use Rattle.normals.proofs.Adding.{Reads}
+use Rattle.normals.specs.Cells.{Cleared, Holds, Reads}
 
 -- what is written for a case of the enum is written for the normal that is that case
 pub written_as : {B : Type 0} (cells : B → List Float) (before : List Float) (k : ℕ) {n case : B} {after : List Float} → n ≡ case → after ≡ sets before k (cells case) → after ≡ sets before k (cells n)
@@ -25,12 +24,11 @@ module _ {A B : Type 0} {row : List Float → ℕ → A} {words : A → List Flo
   of held i = normalised (row held i)
 
   pub record Settling (held now : List Float) (i : ℕ) : Type 0 where
-    pub within : i ≤ count
     pub written : now ≡ sets held (width * 0) (flat_map cells (first_of (of held) i))
 
   pub settling_start : (held : List Float) → Settling held held 0
   unfolding first_of flat_map
-  settling_start held = record { within = omega arith; written = refl }
+  settling_start held = record { written = refl }
 
   module _ (held now : List Float) (i : ℕ) (s : Settling held now i) where
     pub settling_length : length now ≡ length held
@@ -52,16 +50,15 @@ module _ {A B : Type 0} {row : List Float → ℕ → A} {words : A → List Flo
     settling_on h sum n now' es en e =
         let z : i ≡ 0 + i = omega arith in
         record {
-          within = omega arith;
           written =
               e
               ∙ ap₂ (λ (k : ℕ) (b : B). sets now (width * k) (cells b)) z (en ∙ ap normalised (es ∙ same))
               ∙ laid_on cells width wide held now (of held) 0 i s.written;
         }
 
-    pub settling_done : count ≤ i → width * count ≤ length held → now ≡ over held (flat_map cells (first_of (of held) count))
-    settling_done h room =
-        let e : i ≡ count = omega (arith, s.within) in
+    pub settling_done : i ≤ count → count ≤ i → width * count ≤ length held → now ≡ over held (flat_map cells (first_of (of held) count))
+    settling_done end h room =
+        let e : i ≡ count = omega arith in
         (rw e at s.written) ∙ laid_over cells width wide held (of held) count room
 
   -- cleared, gathered and normalised: the normals of what each vertex gathers from the origin on, over what the lent words were

@@ -1,4 +1,5 @@
-// Document 01, section 7, and document 02, U5: the sign that an element's normal has by its parity.
+// The sign that an element's normal has by its parity: an element of odd parity counts with the other sign, and so all normals turn round where
+// every parity is changed.
 ghost use Rattle.std.specs.Prelude.{◌≡◌, ◌≤◌};
 ghost use Rattle.geom.specs.Memory.{parity_of};
 ghost use Rattle.geom.specs.Normals as Normals;

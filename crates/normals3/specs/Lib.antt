@@ -1,2 +1,4 @@
--- vectors in cells, and what a triangle adds to each vertex
+-- what a triangle adds to each vertex
 pub mod Cells
+-- and what the entry owes of them
+pub mod Entry

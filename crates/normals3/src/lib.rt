@@ -1,54 +1,24 @@
-// Document 01, section 7: the normals of a simplex mesh in memory in three dimensions, from its triangles. Any words in any slices of any lengths, any
+// The normals of a simplex mesh in memory in three dimensions, from its triangles. Any words in any slices of any lengths, any
 // sizes.
 #![tactic(auto)]
 
 ghost use Rattle.geom.specs.Answers.{verdict_of};
 ghost use Rattle.geom.specs.Turning.{three, Shades};
-ghost use Rattle.judge.specs.Judged.{bench};
+ghost use Rattle.geom.specs.Lent.{words_of};
 
-use geom::answer::{Ended, Sizes};
-use geom::kind::Kind;
-use judge::mesh::handed_in;
+use geom::answer::Sizes;
+use geom::bench::Bench;
+use geom::refusal::Refusal;
+use normals::faces::compute;
 
-mod cells;
 mod triangles;
+
+use triangles::Triangles;
 
 // Judged first, then 10 where the lent list has fewer cells of 3 words than there are vertices. If refused nothing
 // changes; else every vertex's cell is written, and the words past them stay.
-pub fn compute_normals_3d(
-    sizes: Sizes,
-    positions: &[f32],
-    marks: &[u32],
-    points: &[u32],
-    lines: &[u32],
-    areas: &[u32],
-    volumes: &[u32],
-    curves: &[u32],
-    steps: &[u32],
-    normals: &mut [f32],
-) -> Ended
-    ensures { Shades three sizes (bench positions.now marks.now points.now lines.now areas.now volumes.now curves.now steps.now) normals.old (record { verdict = verdict_of result; out = normals.new }) }
+pub fn compute_normals_3d(sizes: Sizes, bench: &Bench, normals: &mut [f32]) -> Result<(), Refusal>
+    ensures { Shades three sizes (words_of bench.now) normals.old (record { verdict = verdict_of result; out = normals.new }) }
 {
-    let ended = handed_in(
-        Kind::Simplices,
-        sizes,
-        positions,
-        marks,
-        points,
-        lines,
-        areas,
-        volumes,
-        curves,
-        steps,
-        true,
-        true,
-    );
-    let Ended::Finished = ended else {
-        return ended;
-    };
-    if normals.len() / 3 < sizes.vertices {
-        return Ended::Refused(10);
-    }
-    triangles::shade(positions, areas, normals, sizes.areas, sizes.vertices);
-    Ended::Finished
+    compute::<Triangles>(sizes, bench, normals)
 }

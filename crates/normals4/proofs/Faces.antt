@@ -1,68 +1,30 @@
 -- Tetrahedra: what a tetrahedron's normal is by its corners and its parity, its minors four at once, and what it adds to each vertex.
 -- Assumes nothing.
 use mathlib.Core.Path.{◌≡◌, refl, sym, ◌∙◌, ap, ap₂, subst}
-use mathlib.Core.Bool.{Bool, true, false, cond}
-use mathlib.Core.List.{List, [], ◌∷◌, ◌++◌, flat_map}
+use mathlib.Core.List.{List, [], ◌∷◌, ◌++◌}
 use Prim.Native.Nat.{ℕ, ◌+◌, ◌*◌, ◌≤◌}
 use native.Mathlib.Omega.{arith}
-use lib.Dec.{eqb}
 use lib.Ieee.{Float, add, sub, sum, neg, round, units, odd, binary32}
 use lib.ListN.{length, get_or, take, drop}
-use lib.Seq.{sets}
-use borrow.Author.Tests.{eqb-true, eqb-false}
 use Rattle.numbers.proofs.Products.{sign_moves}
 use Rattle.numbers.specs.Binary32 as Binary32
 use Rattle.numbers.specs.Binary32.{◌⊖◌, ◌⊗◌}
 use Rattle.numbers.specs.Points3 as Points3
 use Rattle.numbers.specs.Points4 as Points4
-use Rattle.numbers.specs.Normal.{normalised4, cells4}
 use Rattle.numbers.specs.declared.vec4.Vec4.{Vec4}
-use Rattle.geom.specs.declared.answer.Sizes.{Sizes}
 use Rattle.geom.specs.declared.parity.Parity.{Parity}
 use Rattle.geom.specs.declared.parity.Parity.TheVariants.{Even, Odd}
-use Rattle.geom.specs.declared.vertex.Vertex.{Vertex}
-use Rattle.geom.specs.Book.{simplices}
 use Rattle.geom.specs.Elements.{Element}
 use Rattle.geom.specs.Floats as Floats
 use Rattle.geom.specs.Floats.{points4}
-use Rattle.geom.specs.Memory.{Bench, first_of, four_row, element_row, element_of, parity_of, rows_of, mesh_of, over}
-use Rattle.geom.specs.Normals.{sign, to_corners, axis, volume_normal, gather4, normals4}
-use Rattle.geom.proofs.Accepted.{vertex_count}
+use Rattle.geom.specs.Memory.{element_row, element_of, parity_of}
+use Rattle.geom.specs.Normals.{sign, to_corners, axis, volume_normal}
 use Rattle.geom.proofs.Signs.{sign_even, sign_odd}
-use Rattle.vertices.specs.Cells.{position_words, point_row, vertices_of, elements_of, Elements}
-use Rattle.vertices.proofs.Written.{get_d_sets_past}
-use Rattle.vertices.proofs.Gathering.{part_more, four_same, four_other, position_of}
-use Rattle.normals.specs.Cells.{element_at, Holds}
-use Rattle.normals.proofs.Adding.{Reads, spread_none, spread_on, spread_long, three_words, Folds}
-use Rattle.normals4.specs.Cells.{Four, products, first_axes, second_axes, third_axes, cross_products, minors_of, signs_of, volume_step}
-
--- ---- points in cells
-
-pub points : Reads point_row position_words 4 Points4.origin
-unfolding four_row Points4.origin
-points =
-    record {
-      wide = λ p. refl;
-      put = λ l v p h u. go l v p h u (eqb v u) refl;
-      past = λ l ws a i h.
-          let e : 4 * i + 0 ≡ 4 * i = omega arith in
-          let x = rw e at (get_d_sets_past l a ws (4 * i + 0) Binary32.zero (omega arith)) in
-          let y = get_d_sets_past l a ws (4 * i + 1) Binary32.zero (omega arith) in
-          let z = get_d_sets_past l a ws (4 * i + 2) Binary32.zero (omega arith) in
-          let w = get_d_sets_past l a ws (4 * i + 3) Binary32.zero (omega arith) in
-          λ j. record { x = x j; y = y j; z = z j; w = w j };
-      cleared = λ l n f u h.
-          let x = f (4 * u) (omega arith) in
-          let y = f (4 * u + 1) (omega arith) in
-          let z = f (4 * u + 2) (omega arith) in
-          let w = f (4 * u + 3) (omega arith) in
-          λ j. record { x = x j; y = y j; z = z j; w = w j };
-    }
-  where
-    go : (l : List Float) (v : ℕ) (p : Vec4) → 4 * v + 4 ≤ length l → (u : ℕ) (b : Bool) → eqb v u ≡ b
-        → point_row (sets l (4 * v) (position_words p)) u ≡ cond b p (point_row l u)
-    go l v p h u true q = subst (λ (k : ℕ). point_row (sets l (4 * v) (position_words p)) k ≡ p) (eqb-true v u q) (four_same points4 l v p h)
-    go l v p h u false q = four_other points4 l v p u (eqb-false v u q)
+use Rattle.vertices.specs.Cells.{point_row, vertices_of, Elements}
+use Rattle.vertices.proofs.Gathering.{part_more, position_of}
+use Rattle.normals.specs.Cells.{element_at, Below, Holds}
+use Rattle.normals.proofs.Adding.{three_words, corners_below}
+use Rattle.normals4.specs.Cells.{products, first_axes, second_axes, third_axes, cross_products, minors_of, signs_of, volume_step}
 
 -- ---- the minors, four at once
 
@@ -94,17 +56,17 @@ signed p n =
 -- ---- a tetrahedron's normal, from the positions of its corners
 
 module _ (positions : List Float) (count : ℕ) (p : Parity) (marks : List ℕ) where
-  pub volume_is : (a b c d : ℕ) → Four a b c d count → (o v₁ v₂ v₃ d₁ d₂ d₃ n k r : Vec4)
+  pub volume_is : (a b c d : ℕ) → Below (a ∷ b ∷ c ∷ d ∷ []) count → (o v₁ v₂ v₃ d₁ d₂ d₃ n k r : Vec4)
       → o ≡ point_row positions a → v₁ ≡ point_row positions b → v₂ ≡ point_row positions c → v₃ ≡ point_row positions d
       → d₁ ≡ Points4.difference v₁ o → d₂ ≡ Points4.difference v₂ o → d₃ ≡ Points4.difference v₃ o
       → n ≡ minors_of d₁ d₂ d₃ → k ≡ signs_of p → r ≡ products k n
       → r ≡ volume_normal (vertices_of positions marks count) (record { corners = a ∷ b ∷ c ∷ d ∷ []; parity = p })
   unfolding volume_normal minors_of
   volume_is a b c d t o v₁ v₂ v₃ d₁ d₂ d₃ n k r eo e₁ e₂ e₃ f₁ f₂ f₃ en ek er =
-      let w = eo ∙ sym (position_of Floats.binary32 positions marks count a t.first) in
-      let x = f₁ ∙ ap₂ Points4.difference (e₁ ∙ sym (position_of Floats.binary32 positions marks count b t.second)) w in
-      let y = f₂ ∙ ap₂ Points4.difference (e₂ ∙ sym (position_of Floats.binary32 positions marks count c t.third)) w in
-      let z = f₃ ∙ ap₂ Points4.difference (e₃ ∙ sym (position_of Floats.binary32 positions marks count d t.fourth)) w in
+      let w = eo ∙ sym (position_of Floats.binary32 positions marks count a (t.below 0 (omega arith))) in
+      let x = f₁ ∙ ap₂ Points4.difference (e₁ ∙ sym (position_of Floats.binary32 positions marks count b (t.below 1 (omega arith)))) w in
+      let y = f₂ ∙ ap₂ Points4.difference (e₂ ∙ sym (position_of Floats.binary32 positions marks count c (t.below 2 (omega arith)))) w in
+      let z = f₃ ∙ ap₂ Points4.difference (e₃ ∙ sym (position_of Floats.binary32 positions marks count d (t.below 3 (omega arith)))) w in
       er ∙ ap₂ products ek (en ∙ (λ i. minors_of (x i) (y i) (z i))) ∙ signed p (minors_of _ _ _)
 
 -- ---- the tetrahedron that the words stand for
@@ -117,21 +79,15 @@ four_words_lem words s h =
 module _ (words : List ℕ) (i count : ℕ) where
   module _ (es : Elements words 4 (i + 1) count) (a b c d : ℕ) (ea : a ≡ get_or words (5 * i) 0) (eb : b ≡ get_or words (5 * i + 1) 0)
       (ec : c ≡ get_or words (5 * i + 2) 0) (ed : d ≡ get_or words (5 * i + 3) 0) where
-    pub four_below : Four a b c d count
-    four_below =
-        let z : 5 * i + 0 ≡ 5 * i = omega arith in
-        record {
-          first = rw (ea, ← z) (es.below i (omega arith) 0 (omega arith));
-          second = rw eb (es.below i (omega arith) 1 (omega arith));
-          third = rw ec (es.below i (omega arith) 2 (omega arith));
-          fourth = rw ed (es.below i (omega arith) 3 (omega arith));
-        }
+    four_are : a ∷ b ∷ c ∷ d ∷ [] ≡ take 4 (drop (5 * i) words)
+    four_are = (λ j. ea j ∷ eb j ∷ ec j ∷ ed j ∷ []) ∙ sym (four_words_lem words (5 * i) (omega (arith, es.room)))
+
+    pub four_below : Below (a ∷ b ∷ c ∷ d ∷ []) count
+    four_below = subst (λ (cs : List ℕ). Below cs count) (sym four_are) (corners_below words 4 (i + 1) count i es (omega arith))
 
     tetrahedron_is : ◌≡◌ {A = Element} (record { corners = a ∷ b ∷ c ∷ d ∷ []; parity = parity_of (get_or words (5 * i + 4) 0) }) (element_at 4 words i)
     unfolding element_row element_of
-    tetrahedron_is =
-        let ks = (λ j. ea j ∷ eb j ∷ ec j ∷ ed j ∷ []) ∙ sym (four_words_lem words (5 * i) (omega (arith, es.room))) in
-        λ j. record { corners = ks j; parity = parity_of (get_or words (5 * i + 4) 0) }
+    tetrahedron_is = λ j. record { corners = four_are j; parity = parity_of (get_or words (5 * i + 4) 0) }
 
     pub tetrahedron_on : (positions : List Float) (n : Vec4)
         → ((marks : List ℕ) → n ≡ volume_normal (vertices_of positions marks count) (record { corners = a ∷ b ∷ c ∷ d ∷ []; parity = parity_of (get_or words (5 * i + 4) 0) }))
@@ -147,40 +103,3 @@ module _ (words : List ℕ) (i count : ℕ) where
               ∙ ap (λ (y : Element). volume_step vertices y u (point_row s u)) tetrahedron_is;
           rest = g.rest;
         }
-
--- ---- its corners, one by one
-
-module _ {A : Type 0} {row : List Float → ℕ → A} {words : A → List Float} {width : ℕ} {origin : A} (r : Reads row words width origin) (add : A → A → A) (n : A) (count : ℕ) where
-  pub spread_four : (s : List Float) (a b c d : ℕ) (s₁ s₂ s₃ s₄ : List Float) → Four a b c d count → width * count ≤ length s
-      → s₁ ≡ sets s (width * a) (words (add (row s a) n))
-      → s₂ ≡ sets s₁ (width * b) (words (add (row s₁ b) n))
-      → s₃ ≡ sets s₂ (width * c) (words (add (row s₂ c) n))
-      → s₄ ≡ sets s₃ (width * d) (words (add (row s₃ d) n))
-      → Holds row width count s (λ (u : ℕ). to_corners add n u (a ∷ b ∷ c ∷ d ∷ []) (row s u)) s₄
-  spread_four s a b c d s₁ s₂ s₃ s₄ t room e₁ e₂ e₃ e₄ =
-      let room₁ = spread_long r add n count s a s₁ room e₁ in
-      let room₂ = spread_long r add n count s₁ b s₂ room₁ e₂ in
-      let room₃ = spread_long r add n count s₂ c s₃ room₂ e₃ in
-      let last = spread_on r add n count s₃ d [] s₄ s₄ t.fourth room₃ e₄ (spread_none r add n count s₄) in
-      spread_on r add n count s a (b ∷ c ∷ d ∷ []) s₁ s₄ t.first room e₁
-      (spread_on r add n count s₁ b (c ∷ d ∷ []) s₂ s₄ t.second room₁ e₂ (spread_on r add n count s₂ c (d ∷ []) s₃ s₄ t.third room₂ e₃ last))
-
--- ---- all tetrahedra
-
-gather4_snoc : (vertices : List Vertex) (u : ℕ) (es : List Element) (e : Element) (s : Vec4) → gather4 vertices u (es ++ e ∷ []) s ≡ volume_step vertices e u (gather4 vertices u es s)
-unfolding gather4 volume_step
-gather4_snoc vertices u [] e s = refl
-gather4_snoc vertices u (x ∷ es) e s = gather4_snoc vertices u es e (volume_step vertices x u s)
-
-pub tetrahedra : Folds gather4 volume_step
-unfolding gather4
-tetrahedra = record { none = λ vertices u s. refl; snoc = gather4_snoc }
-
--- the normals of the vertices that are stated, as those of the mesh that the rows stand for
-module _ (s : Sizes) (b : Bench) (out after : List Float) where
-  pub of_mesh4 : after ≡ over out (flat_map cells4 (first_of (λ (v : ℕ). normalised4 (gather4 (vertices_of b.positions b.marks s.vertices) v (elements_of 4 b.volumes s.volumes) Points4.origin)) s.vertices))
-      → after ≡ over out (flat_map cells4 (normals4 (mesh_of (rows_of simplices s b))))
-  unfolding normals4 rows_of mesh_of
-  of_mesh4 e =
-      e ∙ ap (λ (n : ℕ). over out (flat_map cells4 (first_of (λ (v : ℕ). normalised4 (gather4 (vertices_of b.positions b.marks s.vertices) v (elements_of 4 b.volumes s.volumes) Points4.origin)) n)))
-      (sym (vertex_count simplices s b))

@@ -1,7 +1,7 @@
--- What a tetrahedron adds to a vertex's sum, one step of geom's `gather4`; and the minors, four at once. A cell of 4 words is a point's (`vertices`).
+-- What a tetrahedron adds to a vertex's sum, one step of geom's `gather4`; and the minors, four at once.
 -- Says nothing of when a mesh is refused.
 -- Assumes nothing.
-use Rattle.std.specs.Prelude.{ℕ, ◌<◌, List}
+use Rattle.std.specs.Prelude.{◌≡◌, refl, ℕ, List, [], ◌∷◌, ◌++◌}
 use Rattle.std.specs.Float.Ieee.{neg}
 use Rattle.numbers.specs.Binary32.{◌⊗◌}
 use Rattle.numbers.specs.Points3 as Points3
@@ -10,18 +10,22 @@ use Rattle.numbers.specs.declared.vec4.Vec4.{Vec4}
 use Rattle.geom.specs.declared.parity.Parity.{Parity}
 use Rattle.geom.specs.declared.vertex.Vertex.{Vertex}
 use Rattle.geom.specs.Elements.{Element}
-use Rattle.geom.specs.Normals.{sign, to_corners, axis, volume_normal}
-
--- corners that are vertices below the count
-pub record Four (a b c d count : ℕ) : Type 0 where
-  pub first : a < count
-  pub second : b < count
-  pub third : c < count
-  pub fourth : d < count
+use Rattle.geom.specs.Normals.{sign, to_corners, axis, volume_normal, gather4}
+use Rattle.normals.specs.Cells.{Folds}
 
 -- what vertex u has after one tetrahedron
 unfoldable pub volume_step : List Vertex → Element → ℕ → Vec4 → Vec4
 volume_step vertices e u s = to_corners Points4.sum (volume_normal vertices e) u e.corners s
+
+-- `gather4` is that of each tetrahedron in turn
+gather4_snoc : (vertices : List Vertex) (u : ℕ) (es : List Element) (e : Element) (s : Vec4) → gather4 vertices u (es ++ e ∷ []) s ≡ volume_step vertices e u (gather4 vertices u es s)
+unfolding gather4 volume_step
+gather4_snoc vertices u [] e s = refl
+gather4_snoc vertices u (x ∷ es) e s = gather4_snoc vertices u es e (volume_step vertices x u s)
+
+pub tetrahedra : Folds gather4 volume_step
+unfolding gather4
+tetrahedra = record { none = λ vertices u s. refl; snoc = gather4_snoc }
 
 -- the products of two points, axis by axis
 abbrev pub products : Vec4 → Vec4 → Vec4

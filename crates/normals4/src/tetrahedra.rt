@@ -1,21 +1,23 @@
-// Document 01, section 7, 4D: differences from corner 0, sign times the minors, every tetrahedron, added to each corner, then normalised.
+// Every tetrahedron, corners repeated or not: sign times the minors of the differences from corner 0, added to each corner, then normalised.
 ghost use Rattle.std.specs.Prelude.{◌≡◌, ℕ, ◌+◌, ◌*◌, ◌≤◌, length};
-ghost use mathlib.Core.List.{List, [], ◌∷◌, flat_map};
-ghost use Rattle.std.proofs.lemmas.List.Edits.{sets};
-ghost use Rattle.numbers.specs.Points4 as Points4;
-ghost use Rattle.numbers.specs.Normal.{normalised4, cells4};
-ghost use Rattle.geom.specs.Memory.{first_of, over, parity_of};
-ghost use Rattle.geom.specs.Normals.{volume_normal, to_corners, gather4};
-ghost use Rattle.vertices.specs.Cells.{position_words, point_row, vertices_of, elements_of};
-ghost use Rattle.normals.specs.Cells.{element_at, Signed, Holds};
-ghost use Rattle.normals4.specs.Cells.{products, first_axes, second_axes, third_axes, cross_products, minors_of, signs_of, volume_step, Four};
+ghost use mathlib.Core.List.{List, [], ◌∷◌};
+ghost use Rattle.geom.specs.declared.answer.Sizes.{Sizes};
+ghost use Rattle.geom.specs.Memory.{Bench, parity_of};
+ghost use Rattle.geom.specs.Normals.{volume_normal, gather4};
+ghost use Rattle.vertices.specs.Cells.{vertices_of};
+ghost use Rattle.normals.specs.Cells.{Below};
+ghost use Rattle.geom.specs.Turning.{four};
+ghost use Rattle.normals4.specs.Entry.{tetrahedra_entry};
+ghost use Rattle.normals4.specs.Cells.{products, first_axes, second_axes, third_axes, cross_products, minors_of, signs_of, volume_step, tetrahedra};
 
+use geom::answer::Sizes;
+use geom::bench::Bench;
 use geom::words::word;
-use normals::cells::clear;
+use normals::cells::to_corners;
+use normals::faces::Faces;
 use normals::sign::sign;
-use numbers::normal::{Normal4, normalise4};
 use numbers::vec4::Vec4;
-use vertices::cells::{point_at, put_point};
+use vertices::cells::point_at;
 
 // The products of two points, axis by axis.
 fn times(p: Vec4, q: Vec4) -> Vec4
@@ -115,7 +117,7 @@ fn volume_normal(
     count: usize,
 ) -> Vec4
     requires count_in_bounds { 4 * count ≤ length positions.now }
-    requires four { Four a b c d count }
+    requires below { Below (a ∷ b ∷ c ∷ d ∷ []) count }
     requires parity_bound { parity ≤ 1 }
     ensures { (marks : List ℕ) → result ≡ volume_normal (vertices_of positions.now marks count) (record { corners = a ∷ b ∷ c ∷ d ∷ []; parity = parity_of parity }) }
 {
@@ -129,90 +131,43 @@ fn volume_normal(
     )
 }
 
-// A normal is added to the sum of vertex v.
-fn add_point(sums: &mut [f32], v: usize, n: Vec4)
-    requires { 4 * v + 4 ≤ length sums.old }
-    ensures { sums.new ≡ sets sums.old (4 * v) (position_words (Points4.sum (point_row sums.old v) n)) }
-{
-    let s = point_at(sums, v);
-    put_point(sums, v, s.add(n));
-}
+pub struct Tetrahedra;
 
-// A tetrahedron's normal is added to each corner, a repeated corner each time.
-fn to_corners(sums: &mut [f32], a: usize, b: usize, c: usize, d: usize, n: Vec4, count: usize)
-    requires count_in_bounds { 4 * count ≤ length sums.old }
-    requires four { Four a b c d count }
-    ensures { Holds point_row 4 count sums.old (λ (u : ℕ). to_corners Points4.sum n u (a ∷ b ∷ c ∷ d ∷ []) (point_row sums.old u)) sums.new }
-{
-    add_point(sums, a, n);
-    add_point(sums, b, n);
-    add_point(sums, c, n);
-    add_point(sums, d, n);
-}
+impl Faces for Tetrahedra {
+    type Normal = Vec4;
 
-// What tetrahedron i adds.
-fn add_tetrahedron(positions: &[f32], volumes: &[u32], sums: &mut [f32], i: usize, count: usize)
-    requires count_in_bounds { 4 * count ≤ length positions.now }
-    requires signed { Signed volumes.now 4 (i + 1) count }
-    requires count_in_bounds_2 { 4 * count ≤ length sums.old }
-    ensures { (marks : List ℕ) → Holds point_row 4 count sums.old (λ (u : ℕ). volume_step (vertices_of positions.now marks count) (element_at 4 volumes.now i) u (point_row sums.old u)) sums.new }
-{
-    let start = 5 * i;
-    let a = word(volumes, start);
-    let b = word(volumes, start + 1);
-    let c = word(volumes, start + 2);
-    let d = word(volumes, start + 3);
-    let parity = volumes[start + 4];
-    let n = volume_normal(positions, a, b, c, d, parity, count);
-    to_corners(sums, a, b, c, d, n, count);
-}
+    ghost corners = { 4 };
 
-// What each vertex gathers from the tetrahedra.
-fn gather(positions: &[f32], volumes: &[u32], sums: &mut [f32], elements: usize, count: usize)
-    requires count_in_bounds { 4 * count ≤ length positions.now }
-    requires signed { Signed volumes.now 4 elements count }
-    requires count_in_bounds_2 { 4 * count ≤ length sums.old }
-    ensures { (marks : List ℕ) → Holds point_row 4 count sums.old (λ (u : ℕ). gather4 (vertices_of positions.now marks count) u (elements_of 4 volumes.now elements) (point_row sums.old u)) sums.new }
-{
-    let mut i: usize = 0;
-    while i < elements {
-        add_tetrahedron(positions, volumes, sums, i, count);
-        i += 1;
+    ghost gathered = { gather4 };
+
+    ghost step = { volume_step };
+
+    ghost dimension = { four };
+
+    ghost faces = { λ (b : Bench). b.volumes };
+
+    ghost number = { λ (s : Sizes). s.volumes };
+
+    ghost folds = { tetrahedra };
+
+    ghost entry = { tetrahedra_entry };
+
+    fn list<'a>(bench: &Bench<'a>) -> &'a [u32] {
+        bench.volumes
     }
-}
 
-// A normal is written to row i: a direction's components, or +0 in every place where it is Flat.
-fn put_normal(cells: &mut [f32], i: usize, normal: Normal4)
-    requires { 4 * i + 4 ≤ length cells.old }
-    ensures { cells.new ≡ sets cells.old (4 * i) (cells4 normal) }
-{
-    match normal {
-        Normal4::Direction(x, y, z, w) => put_point(cells, i, Vec4 { x, y, z, w }),
-        Normal4::Flat => put_point(cells, i, Vec4::zero()),
+    fn stated(sizes: Sizes) -> usize {
+        sizes.volumes
     }
-}
 
-// Each vertex's sum is normalised in place; the words past them stay.
-fn settle(cells: &mut [f32], count: usize)
-    requires { 4 * count ≤ length cells.old }
-    ensures { cells.new ≡ over cells.old (flat_map cells4 (first_of (λ (i : ℕ). normalised4 (point_row cells.old i)) count)) }
-{
-    let mut i: usize = 0;
-    while i < count {
-        let sum = point_at(cells, i);
-        put_normal(cells, i, normalise4(sum));
-        i += 1;
+    fn add(positions: &[f32], words: &[u32], sums: &mut [f32], i: usize, count: usize) {
+        let start = 5 * i;
+        let a = word(words, start);
+        let b = word(words, start + 1);
+        let c = word(words, start + 2);
+        let d = word(words, start + 3);
+        let parity = words[start + 4];
+        let n = volume_normal(positions, a, b, c, d, parity, count);
+        to_corners(sums, [a, b, c, d], n, count);
     }
-}
-
-// The normals of all vertices, from the tetrahedra.
-pub fn shade(positions: &[f32], volumes: &[u32], normals: &mut [f32], elements: usize, count: usize)
-    requires count_in_bounds { 4 * count ≤ length positions.now }
-    requires signed { Signed volumes.now 4 elements count }
-    requires count_in_bounds_2 { 4 * count ≤ length normals.old }
-    ensures { (marks : List ℕ) → normals.new ≡ over normals.old (flat_map cells4 (first_of (λ (v : ℕ). normalised4 (gather4 (vertices_of positions.now marks count) v (elements_of 4 volumes.now elements) Points4.origin)) count)) }
-{
-    clear(normals, 4 * count);
-    gather(positions, volumes, normals, elements, count);
-    settle(normals, count);
 }

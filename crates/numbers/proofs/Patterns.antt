@@ -1,13 +1,13 @@
 -- Bit patterns of binary32: the number that a pattern stands for, and the pattern of a number given by its digits; and which patterns of either format are no
 -- NaN's. Assumes nothing.
-use Rattle.std.proofs.Common.{◌≡◌, ℕ, suc, ◌+◌, ◌-◌, ◌*◌, ◌/◌, ◌%◌, ◌^◌, ◌<◌, ◌≤◌, Bool, true, false, not, ◌&&◌, T, leb, sym, refl, ap, ◌∙◌, subst, ⊎_elim, le_trans, le_of_lt, mul-le-mul_right, suc-add, eq-or-lt_of_le, pow-suc, mul-div_cancel, arith, pow-add, shl_lt, le-ltb, ne_eqb}
+use Rattle.std.proofs.Common.{◌≡◌, ℕ, suc, ◌+◌, ◌-◌, ◌*◌, ◌/◌, ◌%◌, ◌^◌, ◌<◌, ◌≤◌, Bool, true, false, not, T, leb, sym, refl, ap, ◌∙◌, subst, ⊎_elim, le_trans, le_of_lt, mul-le-mul_right, suc-add, eq-or-lt_of_le, pow-suc, mul-div_cancel, arith, pow-add, shl_lt, le-ltb, ne_eqb}
 use native.Mathlib.Nat.{mod-le}
 use lib.Pow.{shl-shr}
 use lib.Ieee.{Float, nan, inf, fin, Format, binary32, binary64, size, fits, hid, ones, top, of_fields, of_bits, to_bits, nan_bits, is_nan, ne, down}
 use lib.Ieee.Bits.{nan_bits_above, to_bits-lt}
 use lib.Ieee.Compare.{nan_differs}
 use lib.Ieee.Exact.{HasValue, odd_sign}
-use lib.Ieee.Fits.{and_i, down_pos, fits_widens}
+use lib.Ieee.Fits.{down_pos}
 use Rattle.numbers.proofs.RoundedRoot.{size_is}
 
 -- ---- the pattern of s * 2 ^ k units, s having 24 digits or being 2 ^ 24
@@ -65,10 +65,6 @@ unfolding is_nan
 equal_to_itself nan h = subst T (sym nan_differs ∙ h) tt
 equal_to_itself (inf s) h = tt
 equal_to_itself (fin s m e) h = tt
-
--- so a binary32 number that is equal to itself is a binary64 number
-pub widens : (x : Float) → T (fits binary32 x) → ne x x ≡ false → T (fits binary64 x && not (is_nan x))
-widens x h e = and_i (fits binary64 x) (not (is_nan x)) (fits_widens x h) (equal_to_itself x e)
 
 pub below_infinity : (f : Format) (n : ℕ) → n < ones f * hid f → T (not (nan_bits f n))
 below_infinity f n h = rw (nan_bits_above f n, le-ltb (ones f * hid f) (n % top f) (le_trans (mod-le n (top f)) (le_of_lt h))) tt

@@ -1,5 +1,5 @@
 -- IEEE 754's product does not depend on the order of its factors, nor on which of them has the minus sign, not by a bit, since there is one NaN: so where
--- document 01 writes a factor or a sign makes no difference. Assumes nothing.
+-- a definition writes a factor or a sign makes no difference. Assumes nothing.
 use Rattle.std.proofs.Common.{◌≡◌, ◌*◌, Bool, true, false, cond, not, eqb, refl, ap, ◌∙◌, ap₂, mul_comm}
 use lib.Ieee.{Float, Format, nan, inf, fin, unlike, up, down, round, mul, neg}
 

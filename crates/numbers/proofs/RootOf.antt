@@ -2,7 +2,7 @@
 use Rattle.std.proofs.Common.{◌≡◌, ℕ, zero, suc, ◌+◌, ◌-◌, ◌*◌, ◌/◌, ◌%◌, ◌^◌, ◌<◌, ◌≤◌, Bool, true, false, cond, ◌&&◌, T, eqb, ltb, leb, sym, refl, ap, ◌∙◌, subst, ⊎_elim, lt_of_le_of_lt, mul_assoc, mul_comm, mul-le-mul, eq-or-lt_of_le, mul-pos, zero-mul, le-add_left, add-one, arith, lit<, pow_pos, pow_mono, pow-add, ltb-false, ltb-true, le-leb}
 use mathlib.Core.Bool.{and-eq-true_iff, false≢true}
 use borrow.Author.Tests.{lt-leb}
-use lib.Ieee.{Float, nan, inf, fin, binary32, of_fields, of_bits, to_bits, up, down, units, fits}
+use lib.Ieee.{Float, nan, inf, fin, binary32, of_fields, of_bits, to_bits, up, down, units, fits, is_nan}
 use lib.Ieee.Exact.{HasValue, units_val}
 use lib.Ieee.Fits.{down_pos, nan-fits}
 use Rattle.numbers.specs.Root.{whole_root, rounded_root, root}
@@ -95,9 +95,11 @@ zero_own s = refl
 root_of_zero : (b : ℕ) → b % 2147483648 ≡ 0 → root (of_bits binary32 b) ≡ of_bits binary32 b
 root_of_zero b e = rw (fields_at b (leb 2147483648 b) 0 0 refl (omega arith) (omega arith)) (zero_own (leb 2147483648 b))
 
-pub root_of_nan : (x : Float) → x ≡ nan → root x ≡ x
-unfolding root
-root_of_nan x e = rw e
+pub root_of_nan : (x : Float) → is_nan x ≡ true → root x ≡ x
+unfolding root is_nan
+root_of_nan nan e = refl
+root_of_nan (inf s) e = absurd (false≢true e)
+root_of_nan (fin s m k) e = absurd (false≢true e)
 
 -- the field of all ones
 top_field : (s : Bool) (t : ℕ) → of_fields binary32 s 255 t ≡ cond (eqb t 0) (inf s) nan

@@ -66,25 +66,10 @@ pub record Between (n low high : ℕ) : Type 0 where
   pub apart : low < high
   pub small : high ≤ 2 ^ 25
 
-pub between_start : {n : ℕ} → n < 2 ^ 50 → Between n 0 (2 ^ 25)
-between_start h = record { below = omega arith; above = h; apart = omega arith; small = omega arith }
-
-module _ {n low high : ℕ} (b : Between n low high) where
-  pub middle_fits : (low + high) / 2 * ((low + high) / 2) < 2 ^ 64
-  middle_fits =
-      let m : (low + high) / 2 ≤ 2 ^ 25 = omega (arith, b.apart, b.small) in
-      lt_of_le_of_lt (square_le m) (lit< tt)
-
-  pub upper_half : (low + high) / 2 * ((low + high) / 2) ≤ n → Between n ((low + high) / 2) high
-  upper_half h = record { below = h; above = b.above; apart = omega (arith, b.apart); small = b.small }
-
-  pub lower_half : n < (low + high) / 2 * ((low + high) / 2) → Between n low ((low + high) / 2)
-  lower_half h = record { below = b.below; above = h; apart = square_lt (lt_of_le_of_lt b.below h); small = omega (arith, b.apart, b.small) }
-
-  pub between_done : high - low ≤ 1 → low ≡ whole_root n
-  between_done h =
-      let next : high ≡ low + 1 = omega (arith, b.apart) in
-      whole_root_unique (record { below = b.below; above = subst (λ (k : ℕ). n < k * k) next b.above }) (whole_root_lem n)
+pub between_done : {n low high : ℕ} → Between n low high → high - low ≤ 1 → low ≡ whole_root n
+between_done {n} {low} {high} b h =
+    let next : high ≡ low + 1 = omega (arith, b.apart) in
+    whole_root_unique (record { below = b.below; above = subst (λ (k : ℕ). n < k * k) next b.above }) (whole_root_lem n)
 
 -- ---- half of the root, rounded by the root's last digit, is known by the squares of the odd numbers next to its double
 

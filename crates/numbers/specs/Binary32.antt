@@ -1,4 +1,4 @@
--- Document 01, section 1: the steps. In sums, differences, products and quotients each step rounds once, to nearest, ties to even. The four signs below are
+-- The steps. In sums, differences, products and quotients each step rounds once, to nearest, ties to even. The four signs below are
 -- IEEE 754's operations on binary32 as `lib.Ieee` defines them, and each use of one is one rounded step; they group to the left. Definitions only.
 use Rattle.std.specs.Prelude.{ℕ, false, pos, negsuc, Float}
 use Rattle.std.specs.Float.{fin, binary32}

@@ -1,8 +1,15 @@
--- Document 01, section 1: what is done with three numbers, the axes x, y and z alone. Every component is worked out by itself, in the order written.
+-- What is done with three numbers, the axes x, y and z alone. Every component is worked out by itself, in the order written.
 -- Definitions only.
-use Rattle.std.specs.Prelude.{Float}
+use Rattle.std.specs.Prelude.{List, [], ◌∷◌, Float}
 use Rattle.numbers.specs.declared.vec3.Vec3.{Vec3}
-use Rattle.numbers.specs.Binary32.{◌⊕◌, ◌⊖◌, ◌⊗◌}
+use Rattle.numbers.specs.Binary32.{◌⊕◌, ◌⊖◌, ◌⊗◌, zero}
+
+abbrev pub components : Vec3 → List Float
+components p = p.x ∷ p.y ∷ p.z ∷ []
+
+-- +0 on each axis: where a sum starts
+abbrev pub origin : Vec3
+origin = record { x = zero; y = zero; z = zero }
 
 unfoldable pub sum : Vec3 → Vec3 → Vec3
 sum p q = record { x = p.x ⊕ q.x; y = p.y ⊕ q.y; z = p.z ⊕ q.z }

@@ -1,8 +1,11 @@
--- Document 01, section 1: a point is four binary32 numbers carried together, axes x, y, z and w (time). Every component is worked out by itself, in the
+-- A point is four binary32 numbers carried together, axes x, y, z and w (time). Every component is worked out by itself, in the
 -- order written. Definitions only.
 use Rattle.std.specs.Prelude.{List, [], ◌∷◌, length, Float}
 use Rattle.numbers.specs.declared.vec4.Vec4.{Vec4}
 use Rattle.numbers.specs.Binary32.{◌⊕◌, ◌⊖◌, ◌⊗◌, ◌⊘◌, zero, half, count}
+
+abbrev pub components : Vec4 → List Float
+components p = p.x ∷ p.y ∷ p.z ∷ p.w ∷ []
 
 unfoldable pub sum : Vec4 → Vec4 → Vec4
 sum p q = record { x = p.x ⊕ q.x; y = p.y ⊕ q.y; z = p.z ⊕ q.z; w = p.w ⊕ q.w }

@@ -1,4 +1,4 @@
--- Document 01, section 1: the square root of a binary32 number, which is the IEEE 754 result: the exact root, rounded once to nearest, ties to even.
+-- The square root of a binary32 number, which is the IEEE 754 result: the exact root, rounded once to nearest, ties to even.
 -- There are no real numbers here, so the exact root is held against whole numbers by squares. `root_is_nearest` (proofs/Nearest.antt) shows of `root`, which
 -- computes, that it gives the binary32 value nearest to the exact root: every other one is `Farther`. Definitions only.
 use Rattle.std.specs.Prelude.{ℕ, zero, suc, ◌+◌, ◌-◌, ◌*◌, ◌/◌, ◌^◌, ◌<◌, true, false, cond, ◌⊎◌, nat_le}

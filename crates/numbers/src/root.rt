@@ -13,15 +13,15 @@ const FIELD: u32 = 0x0080_0000;
 const INFINITY: u32 = 0x7F80_0000;
 
 // The square root. A zero, the infinity and a NaN are their own, and a number below zero has none. A NaN's pattern can't be
-// read, so it is told by its not being equal to itself. Most numbers are above zero and below the infinity, so one comparison tells that of a pattern
+// read, so that is asked first. Most numbers are above zero and below the infinity, so one comparison tells that of a pattern
 // before any other is made.
 pub fn root(x: f32) -> f32
     ensures { result ≡ Root.root x }
 {
-    if x != x {
+    if x.is_nan() {
         return x;
     }
-    let bits = f32::to_bits(x);
+    let bits = x.to_bits();
     if (0 < bits) & (bits < INFINITY) {
         return f32::from_bits(root_bits(bits, x as f64));
     }
@@ -61,10 +61,10 @@ fn root_pattern(digits: u32, weight: u32, near: u64) -> u32
     requires { (0 < digits) × (digits < 2 ^ 24) × (149 ≤ weight) × (weight ≤ 402) }
     ensures { (result ≡ to_bits binary32 (Root.rounded_root binary32 (digits * 2 ^ weight) (4 ^ 149))) × (result < 0x7F80_0000) }
 {
-    let half = (weight - u32::leading_zeros(digits) - 17) / 2;
+    let half = (weight - digits.leading_zeros() - 17) / 2;
     let radicand = (digits as u64) << (weight - 2 * half);
     let least = (half + 1) * FIELD;
-    let rounded = rounded_root(radicand, std::num::wrapping_sub_u64(near, least as u64));
+    let rounded = rounded_root(radicand, near.wrapping_sub(least as u64));
     least + (rounded as u32)
 }
 
@@ -117,13 +117,14 @@ fn near_pattern(bits: u32, wide: f64) -> u64 {
     let s2 = s1 * r1;
     let h2 = h1 * r1;
     let guess = s2 * (1.5 - s2 * h2);
-    if guess != guess {
+    if guess.is_nan() {
         return 0;
     }
-    std::num::wrapping_sub_u64((f64::to_bits(guess) / 0x1000_0000 + 1) / 2, 0x1_C000_0000)
+    ((guess.to_bits() / 0x1000_0000 + 1) / 2).wrapping_sub(0x1_C000_0000)
 }
 
-// The whole part of the square root of n, by halving: it lies from low on, and below high.
+// The whole part of the square root of n, by halving: it lies from low on, and below high. The library's `isqrt` halves 32 times, and n is
+// so small that 25 are enough: with it the root of a subnormal number takes 1.5 times as long.
 fn whole_root(n: u64) -> u64
     requires { n < 2 ^ 50 }
     ensures { (result ≡ Root.whole_root n) × (result < 2 ^ 25) }

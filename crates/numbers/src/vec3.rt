@@ -1,4 +1,6 @@
 // Three components, the axes x, y and z alone: what the normals in three dimensions are worked out with.
+#![tactic(auto, unfolding(crate::specs::Points3::sum, crate::specs::Points3::difference, crate::specs::Points3::scaled, crate::specs::Points3::dot, crate::specs::Points3::cross))]
+
 ghost use Rattle.std.specs.Prelude.{◌≡◌};
 ghost use Rattle.numbers.specs.Points3 as Points3;
 

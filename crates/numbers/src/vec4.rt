@@ -1,5 +1,5 @@
 // A point: four numbers carried together, axes x, y, z and w (time).
-ghost use Rattle.std.specs.Prelude.{◌≡◌, [], ◌∷◌};
+ghost use Rattle.std.specs.Prelude.{◌≡◌, ◌≤◌};
 ghost use Rattle.numbers.specs.Points4 as Points4;
 
 #[derive(Clone, Copy)]
@@ -10,6 +10,7 @@ pub struct Vec4 {
     pub w: f32,
 }
 
+#[tactic(auto, unfolding(crate::specs::Points4::sum, crate::specs::Points4::difference, crate::specs::Points4::scaled, crate::specs::Points4::quotient, crate::specs::Points4::dot))]
 impl Vec4 {
     // +0 on every axis.
     pub fn zero() -> Vec4
@@ -82,26 +83,20 @@ impl Vec4 {
     }
 }
 
-// The corner sum of a line, a triangle and a tetrahedron, divided by the number of corners.
-pub fn mean2(a: Vec4, b: Vec4) -> Vec4
-    ensures { result ≡ Points4.mean (a ∷ b ∷ []) }
+// The corner sum of an element, divided by the number of corners, which is a constant in each instance.
+pub fn mean<const N: usize>(corners: [Vec4; N]) -> Vec4
+    requires { N ≤ 16_777_216 }
+    ensures { result ≡ Points4.mean corners.entry }
 {
-    Vec4::zero().add(a).add(b).over(2.0)
-}
-
-pub fn mean3(a: Vec4, b: Vec4, c: Vec4) -> Vec4
-    ensures { result ≡ Points4.mean (a ∷ b ∷ c ∷ []) }
-{
-    Vec4::zero().add(a).add(b).add(c).over(3.0)
-}
-
-pub fn mean4(a: Vec4, b: Vec4, c: Vec4, d: Vec4) -> Vec4
-    ensures { result ≡ Points4.mean (a ∷ b ∷ c ∷ d ∷ []) }
-{
-    Vec4::zero().add(a).add(b).add(c).add(d).over(4.0)
+    let mut sum = Vec4::zero();
+    for i in 0..N {
+        sum = sum.add(corners[i]);
+    }
+    sum.over(N as f32)
 }
 
 // The matrix with the columns a, b, c and d times the column of weights.
+#[tactic(auto, unfolding(crate::specs::Points4::columns))]
 pub fn columns(a: Vec4, b: Vec4, c: Vec4, d: Vec4, weights: Vec4) -> Vec4
     ensures { result ≡ Points4.columns a b c d weights }
 {

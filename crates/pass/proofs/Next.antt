@@ -22,7 +22,7 @@ use Rattle.geom.proofs.Stated.{length_rows}
 use Rattle.geom.proofs.Books.{Grown}
 use Rattle.geom.proofs.Well.{pass_is, pass_grows}
 use Rattle.book.specs.Cells.{pairs_of}
-use Rattle.lists.specs.declared.Stage.TheVariants.{Full}
+use Rattle.std.specs.Prelude.{Err}
 use Rattle.lists.specs.Lists.{Slices, slices, passed, Bursts}
 use Rattle.pass.specs.Benches.{state_of, lent_of, Held, Lends, Passed}
 use Rattle.geom.proofs.Rows.{length_first_of}
@@ -152,7 +152,7 @@ module _ {F : Form} (kind : Kind) (base : ℕ) (s : Sizes) (a : BenchIn F) (book
     -- and is refused by 10
     pub passed_full :
         (time : Bool) {room : ℕ} {c : Sizes} {b other : BenchIn F} {book' : List ℕ} {sums : List F.Cell} {tallies : List ℕ} → Lends kind base room c a b book sums tallies → Bursts room c w
-        → Passed kind base (lent_of kind a book) (next time) other book' Full
+        → Passed kind base (lent_of kind a book) (next time) other book' (Err (record {}))
     passed_full time l x =
         let n = next time in
         record {

@@ -15,7 +15,7 @@ use Rattle.geom.specs.Book.{Kind, Book}
 use Rattle.geom.specs.Elements.{Curve, Lists}
 use Rattle.geom.specs.Smoothing.{with_midpoints_in, smoothed_in}
 use Rattle.geom.specs.Mesh.{sizes_of}
-use Rattle.geom.specs.Memory.{BenchIn, RowsIn, area_corners, volume_corners, cells, first_of, element_row, curve_row, step_row, element_of, curves_of, rows_of, mesh_of, bench_of, over}
+use Rattle.geom.specs.Memory.{BenchIn, RowsIn, area_corners, volume_corners, cells, first_of, element_row, curve_row, step_row, element_of, curves_of, rows_of, mesh_of, bench_of, over, AsLong}
 use Rattle.geom.specs.Refusals.{every, good_flags, counts_hold, marks_hold, StandsFor, StepsWritten}
 use Rattle.geom.specs.Refinement.{LIMITS, pass_over, fits, within, went}
 use Rattle.geom.specs.Between.{All, Good}
@@ -27,7 +27,7 @@ use Rattle.geom.proofs.Forming.{rows_stepped, formed}
 use Rattle.book.specs.Cells.{pairs_of, pair_at}
 use Rattle.geom.proofs.Within.{Within, within_facts, within_holds}
 use Rattle.vertices.specs.Cells as Vertices
-use Rattle.lists.specs.declared.Stage.TheVariants.{Whole}
+use Rattle.std.specs.Prelude.{Ok}
 use Rattle.lists.specs.Lists.{Slices, lists_of, points_of, Made}
 use Rattle.pass.specs.Benches.{state_of, lent_of, Held, Lends, Onward, Passed}
 use Rattle.pass.proofs.Fitting.{fits_holds}
@@ -244,7 +244,7 @@ module _ {F : Form} {kind : Kind} {base room : ℕ} {s c : Sizes} {a b : BenchIn
             steps = begins_take next_laid.curve_vertices;
           }
 
-      pub passed_whole : cells kind other ≡ cells kind b → Passed kind base (lent_of kind a book) (next kind base s a book made time) other book₂ (Whole t e)
+      pub passed_whole : cells kind other ≡ cells kind b → Passed kind base (lent_of kind a book) (next kind base s a book made time) other book₂ (Ok (record { sizes = t; made = e }))
       unfolding pass_over mesh_of rows_of
       passed_whole q =
           let n = next kind base s a book made time in
@@ -257,19 +257,16 @@ module _ {F : Form} {kind : Kind} {base room : ℕ} {s c : Sizes} {a b : BenchIn
           }
 
 -- slices that keep their lengths keep their cells
-pub cells_same :
-    {F : Form} (kind : Kind) (x y : BenchIn F) → length x.positions ≡ length y.positions → length x.marks ≡ length y.marks → length x.points ≡ length y.points
-    → length x.lines ≡ length y.lines → length x.areas ≡ length y.areas → length x.volumes ≡ length y.volumes
-    → length x.curves ≡ length y.curves → length x.curve_vertices ≡ length y.curve_vertices → cells kind x ≡ cells kind y
+pub cells_same : {F : Form} (kind : Kind) {x y : BenchIn F} → AsLong x y → cells kind x ≡ cells kind y
 unfolding cells
-cells_same kind x y p m o l a v c s =
+cells_same kind s =
     λ i.
     record {
-      vertices = min (p i / 4) (m i / 3);
-      points = o i;
-      lines = l i / 3;
-      areas = a i / suc (area_corners kind);
-      volumes = v i / suc (volume_corners kind);
-      curves = c i / 2;
-      curve_vertices = s i / 2;
+      vertices = min (s.positions i / 4) (s.marks i / 3);
+      points = s.points i;
+      lines = s.lines i / 3;
+      areas = s.areas i / suc (area_corners kind);
+      volumes = s.volumes i / suc (volume_corners kind);
+      curves = s.curves i / 2;
+      curve_vertices = s.curve_vertices i / 2;
     }

@@ -1,7 +1,7 @@
 -- A pass over two benches in memory: what holds between passes, what is lent, and what a pass answers.
 -- Says nothing of what is refused before the first pass.
 -- Assumes nothing.
-use Rattle.std.specs.Prelude.{◌≡◌, true, List, ℕ, ◌+◌, ◌-◌, ◌*◌, ◌≤◌, min, length}
+use Rattle.std.specs.Prelude.{◌≡◌, true, List, ℕ, ◌+◌, ◌-◌, ◌*◌, ◌≤◌, min, length, Result}
 use Rattle.geom.specs.declared.answer.Sizes.{Sizes}
 use Rattle.geom.specs.Answers.{Ending, fitted, EndsWith}
 use Rattle.geom.specs.Book.{Kind}
@@ -14,7 +14,8 @@ use Rattle.geom.specs.Between.{Good}
 use Rattle.book.specs.Cells as Book
 use Rattle.book.specs.Cells.{pairs_of, Linked}
 use Rattle.lists.specs.declared.Stage.{Stage}
-use Rattle.lists.specs.Lists.{Staged, stage_of}
+use Rattle.book.specs.declared.Full.{Full}
+use Rattle.book.specs.Answers.{ending_of}
 
 -- the state that a bench and the book's cells stand for
 abbrev pub state_of : {F : Form} → Kind → Sizes → BenchIn F → List ℕ → ℕ → StateIn F
@@ -66,10 +67,10 @@ pub record Onward {F : Form} (kind : Kind) (base : ℕ) (next : StateIn F) (b : 
   pub steps : StepsWritten b next.mesh
 
 -- the definition's answer: the sizes and the entries of the next state where it fits what is lent, and else 10
-abbrev pub staged : {F : Form} → Lent → StateIn F → Ending Staged
+abbrev pub staged : {F : Form} → Lent → StateIn F → Ending Stage
 staged lent next = fitted (fits lent next) (record { sizes = sizes_of next.mesh; made = length next.book })
 
 -- a pass answers that; and where it is whole, the next state stands on the bench
-pub record Passed {F : Form} (kind : Kind) (base : ℕ) (lent : Lent) (next : StateIn F) (b : BenchIn F) (book : List ℕ) (r : Stage) : Type 0 where
-  pub answer : stage_of r ≡ staged lent next
-  pub onward : EndsWith (λ (t : Staged). Onward kind base next b book t.sizes t.made) (Unit {0}) (stage_of r)
+pub record Passed {F : Form} (kind : Kind) (base : ℕ) (lent : Lent) (next : StateIn F) (b : BenchIn F) (book : List ℕ) (r : Result Stage Full) : Type 0 where
+  pub answer : ending_of r ≡ staged lent next
+  pub onward : EndsWith (λ (t : Stage). Onward kind base next b book t.sizes t.made) (Unit {0}) (ending_of r)

@@ -1,91 +1,97 @@
-// Document 01, sections 3 and 4: one pass of the refinement in memory. It reads the eight slices of one bench and writes those of the other.
+// One pass of the refinement in memory. It reads the eight slices of one bench and writes those of the other.
 #![tactic(auto)]
 
 ghost use Rattle.geom.specs.Kinds.{kind_of};
+ghost use Rattle.geom.specs.Lent.{words_of, words_on, Same, SameWork};
 ghost use Rattle.geom.specs.Refinement.{pass_over};
-ghost use Rattle.judge.specs.Judged.{bench};
 ghost use Rattle.pass.specs.Benches.{state_of, lent_of, Held, Lends, Passed};
 
+use book::Full;
 use geom::answer::Sizes;
+use geom::bench::{Bench, BenchMut, Work};
 use geom::kind::Kind;
 use lists::{Stage, copy_points, lists};
+use vertices::lists::{ElementList, Lists, NewPairs, Vertices};
 use vertices::pass::pass_vertices;
 
-// One pass: points are copied, the lists made, then the vertices. s are the sizes of the bench that is read, c the entries that each list may have.
+// What stays the same from pass to pass of a refinement.
+#[derive(Clone, Copy)]
+pub struct Terms {
+    pub kind: Kind,
+    // How many entries each list may have, and how many the book.
+    pub cells: Sizes,
+    pub room: usize,
+    // How many vertices were handed in: entry e of the book makes the vertex base + e.
+    pub base: usize,
+    // Whether smoothing moves vertices along the time axis too.
+    pub time: bool,
+}
+
+// One pass: points are copied, the lists made, then the vertices. s are the sizes of the bench that is read, and so many entries of the book were made.
 pub fn pass(
-    kind: Kind,
-    positions: &[f32],
-    marks: &[u32],
-    points: &[u32],
-    lines: &[u32],
-    areas: &[u32],
-    volumes: &[u32],
-    curves: &[u32],
-    steps: &[u32],
-    new_positions: &mut [f32],
-    new_marks: &mut [u32],
-    new_points: &mut [u32],
-    new_lines: &mut [u32],
-    new_areas: &mut [u32],
-    new_volumes: &mut [u32],
-    new_curves: &mut [u32],
-    new_steps: &mut [u32],
-    book: &mut [u32],
-    sums: &mut [f32],
-    tallies: &mut [u32],
+    terms: Terms,
+    old: &Bench,
+    new: &mut BenchMut,
+    work: &mut Work,
     s: Sizes,
-    c: Sizes,
     made: usize,
-    room: usize,
-    base: usize,
-    time: bool,
-) -> Stage
-    requires held { Held (kind_of kind) base s (bench positions.now marks.now points.now lines.now areas.now volumes.now curves.now steps.now) book.old made }
-    requires lends { Lends (kind_of kind) base room c (bench positions.now marks.now points.now lines.now areas.now volumes.now curves.now steps.now) (bench new_positions.old new_marks.old new_points.old new_lines.old new_areas.old new_volumes.old new_curves.old new_steps.old) book.old sums.old tallies.old }
-    ensures { Passed (kind_of kind) base (lent_of (kind_of kind) (bench positions.now marks.now points.now lines.now areas.now volumes.now curves.now steps.now) book.old) (pass_over (kind_of kind) time base (state_of (kind_of kind) s (bench positions.now marks.now points.now lines.now areas.now volumes.now curves.now steps.now) book.old made)) (bench new_positions.new new_marks.new new_points.new new_lines.new new_areas.new new_volumes.new new_curves.new new_steps.new) book.new result }
+) -> Result<Stage, Full>
+    requires held { Held (kind_of terms.kind) terms.base s (words_of old.now) work.old.book.now made }
+    requires lends { Lends (kind_of terms.kind) terms.base terms.room terms.cells (words_of old.now) (words_on new.old) work.old.book.now work.old.sums.now work.old.tallies.now }
+    ensures same { Same new.new new.old }
+    ensures same_2 { SameWork work.new work.old }
+    ensures passed { Passed (kind_of terms.kind) terms.base (lent_of (kind_of terms.kind) (words_of old.now) work.old.book.now) (pass_over (kind_of terms.kind) terms.time terms.base (state_of (kind_of terms.kind) s (words_of old.now) work.old.book.now made)) (words_on new.new) work.new.book.now result }
 {
-    copy_points(points, new_points, s.points);
+    copy_points(old.points, new.points, s.points);
+    let book = &mut *work.book;
     let stage = lists(
-        kind,
-        lines,
-        areas,
-        volumes,
-        curves,
-        steps,
-        new_lines,
-        new_areas,
-        new_volumes,
-        new_curves,
-        new_steps,
+        terms.kind,
+        old,
+        new,
         book,
         s,
-        c,
+        terms.cells,
         made,
-        room,
-        base,
-    );
-    let Stage::Whole { sizes, made: all } = stage else {
-        return Stage::Full;
+        terms.room,
+        terms.base,
+    )?;
+    let lines = &mut *new.lines;
+    let areas = &mut *new.areas;
+    let volumes = &mut *new.volumes;
+    let before = Vertices {
+        positions: old.positions,
+        marks: old.marks,
+        count: s.vertices,
+    };
+    let pairs = NewPairs {
+        book,
+        start: made,
+        new: stage.made - made,
+    };
+    let after = Lists {
+        lines: ElementList {
+            words: lines,
+            count: stage.sizes.lines,
+        },
+        areas: ElementList {
+            words: areas,
+            count: stage.sizes.areas,
+        },
+        volumes: ElementList {
+            words: volumes,
+            count: stage.sizes.volumes,
+        },
     };
     pass_vertices(
-        kind,
-        positions,
-        marks,
-        s.vertices,
-        book,
-        made,
-        all - made,
-        new_lines,
-        sizes.lines,
-        new_areas,
-        sizes.areas,
-        new_volumes,
-        sizes.volumes,
-        new_positions,
-        new_marks,
-        sums,
-        tallies,
-        time,
+        terms.kind,
+        before,
+        pairs,
+        after,
+        new.positions,
+        new.marks,
+        work.sums,
+        work.tallies,
+        terms.time,
     );
-    Stage::Whole { sizes, made: all }
+    Ok(stage)
 }

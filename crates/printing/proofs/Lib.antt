@@ -3,7 +3,6 @@ pub mod Texts
 -- how long a text is
 pub mod Lengths
 pub mod Held
--- the benches are equal
--- what each function hands on
+-- what a run leaves, and what is handed on of it
 pub mod Refining
 pub mod Picking

@@ -1,24 +1,25 @@
 -- The parts of the lists that the caller is handed have the same rows, and so the same listing. Assumes nothing.
-use mathlib.Core.Path.{◌≡◌, sym, ◌∙◌, ap}
+use mathlib.Core.Path.{◌≡◌, refl, sym, ◌∙◌, ap}
+use mathlib.Core.Bool.{Bool, true, false, cond}
 use mathlib.Core.List.{List, []}
-use Prim.Native.Nat.{ℕ, suc, ◌+◌, ◌*◌, ◌≤◌, ◌<◌}
+use Prim.Native.Nat.{ℕ, suc, ◌+◌, ◌*◌, ◌%◌, ◌≤◌, ◌<◌}
 use native.Mathlib.Omega.{arith}
 use native.Mathlib.Nat.{mul-suc, mul-le-mul_left}
 use native.Mathlib.Numerals.{add-one}
+use lib.Dec.{eqb}
 use lib.Ieee.{Float}
 use lib.ListN.{length, get_or, take, drop}
 use lib.Seq.{get_or-take, length-take-le}
 use Rattle.numbers.specs.Binary32 as Binary32
 use Rattle.geom.specs.declared.answer.Sizes.{Sizes}
 use Rattle.geom.specs.Book.{Kind}
-use Rattle.geom.specs.Memory.{Rows, area_corners, volume_corners, first_of, vertex_row, four_row, vertex_row_in, element_row, curve_row, step_row, rows_of, mesh_of}
+use Rattle.geom.specs.Memory.{Bench, Rows, area_corners, volume_corners, first_of, vertex_row, four_row, vertex_row_in, element_row, curve_row, step_row, rows_of, mesh_of}
 use Rattle.geom.specs.Listing as Listing
-use Rattle.geom.specs.Refusals.{curve_lengths}
+use Rattle.geom.specs.Refusals.{curve_lengths, side}
 use Rattle.geom.proofs.Rows.{first_of_same}
 use Rattle.division.proofs.Rows.{first_of_part}
 use Rattle.judge.specs.Words.{Elements}
-use Rattle.judge.specs.Judged.{bench}
-use Rattle.listing.specs.Printed.{listed, Stated}
+use Rattle.listing.specs.Printed.{listed, with_marks, Stated}
 
 -- ---- rows of a part
 
@@ -82,68 +83,6 @@ steps_part steps n =
     let p = get_or-take (2 * n) steps (2 * i + 1) 0 (omega arith) in
     λ j. record { vertex = v j; step = p j })
 
--- ---- the handed parts
-
-elements_handed : {words part : List ℕ} (c n : ℕ) → Elements words c n → part ≡ take (suc c * n) words → Elements part c n
-elements_handed {words} c n e p =
-    record { few = e.few; room = omega (arith, ap length p, length-take-le (suc c * n) words e.room) }
-
--- lists whose rows stand, and the parts of them that are handed on
-module _
-    (passes : ℕ) (kind : Kind) (s : Sizes) {positions positions' : List Float}
-    {points lines areas volumes curves steps points' lines' areas' volumes' curves' steps' out : List ℕ}
-    (g : Stated passes kind s positions points lines areas volumes curves steps out)
-    (p : positions' ≡ take (4 * s.vertices) positions) (q : points' ≡ take s.points points) (l : lines' ≡ take (3 * s.lines) lines)
-    (a : areas' ≡ take (suc (area_corners kind) * s.areas) areas)
-    (v : volumes' ≡ take (suc (volume_corners kind) * s.volumes) volumes) (c : curves' ≡ take (2 * s.curves) curves)
-    (t : steps' ≡ take (2 * s.curve_vertices) steps) where
-  rows_handed :
-      (marks : List ℕ)
-      → rows_of kind s (bench positions' marks points' lines' areas' volumes' curves' steps')
-      ≡ rows_of kind s (bench positions marks points lines areas volumes curves steps)
-  unfolding rows_of
-  rows_handed marks =
-      let e1 = ap (λ (w : List Float). first_of (vertex_row w marks) s.vertices) p ∙ vertices_part positions marks s.vertices in
-      let e2 = ap (λ (w : List ℕ). first_of (λ (i : ℕ). get_or w i 0) s.points) q ∙ points_part points s.points in
-      let e3 = ap (λ (w : List ℕ). first_of (element_row 2 w) s.lines) l ∙ elements_part 2 s.lines lines g.elements.line.room in
-      let e4 =
-      ap (λ (w : List ℕ). first_of (element_row (area_corners kind) w) s.areas) a
-      ∙ elements_part (area_corners kind) s.areas areas g.elements.area.room
-      in
-      let e5 =
-      ap (λ (w : List ℕ). first_of (element_row (volume_corners kind) w) s.volumes) v
-      ∙ elements_part (volume_corners kind) s.volumes volumes g.elements.volume.room
-      in
-      let e6 = ap (λ (w : List ℕ). first_of (curve_row w) s.curves) c ∙ curves_part curves s.curves in
-      let e7 = ap (λ (w : List ℕ). first_of (step_row w) s.curve_vertices) t ∙ steps_part steps s.curve_vertices in
-      λ j. record { vertices = e1 j; points = e2 j; lines = e3 j; areas = e4 j; volumes = e5 j; curves = e6 j; curve_vertices = e7 j }
-
-  pub listed_handed :
-      (marks : List ℕ)
-      → listed passes kind s (bench positions' marks points' lines' areas' volumes' curves' steps')
-      ≡ listed passes kind s (bench positions marks points lines areas volumes curves steps)
-  listed_handed marks = ap (λ (r : Rows). Listing.listing passes (mesh_of r)) (rows_handed marks)
-
-  pub stated_handed : Stated passes kind s positions' points' lines' areas' volumes' curves' steps' out
-  stated_handed =
-      record {
-        vertices = omega (arith, ap length p, length-take-le (4 * s.vertices) positions g.vertices);
-        point = omega (arith, ap length q, length-take-le s.points points g.point);
-        elements =
-            record {
-              line = elements_handed 2 s.lines g.elements.line l;
-              area = elements_handed (area_corners kind) s.areas g.elements.area a;
-              volume = elements_handed (volume_corners kind) s.volumes g.elements.volume v;
-            };
-        parts =
-            record {
-              room = omega (arith, ap length c, length-take-le (2 * s.curves) curves g.parts.room);
-              vertices = omega (arith, ap length t, length-take-le (2 * s.curve_vertices) steps g.parts.vertices);
-              sum = ap (λ (w : List ℕ). curve_lengths (first_of (curve_row w) s.curves)) c ∙ ap curve_lengths (curves_part curves s.curves) ∙ g.parts.sum;
-            };
-        room = omega (arith, g.room, ap length (listed_handed []));
-      }
-
 -- ---- their widths
 
 -- 1,024 rows of at most 9 words are few
@@ -151,5 +90,93 @@ pub few_words : (w n : ℕ) → w ≤ 8 → n ≤ 1024 → (w + 1) * n ≤ 9216
 few_words w n l h = omega (arith, mul-le-mul_left (w + 1) h)
 
 -- a row is a word for each corner and one for the parity
-pub wide_part : (words : List ℕ) {part : List ℕ} (w c n : ℕ) → w ≡ c → part ≡ take ((w + 1) * n) words → part ≡ take (suc c * n) words
+wide_part : (words : List ℕ) {part : List ℕ} (w c n : ℕ) → w ≡ c → part ≡ take ((w + 1) * n) words → part ≡ take (suc c * n) words
 wide_part words w c n e p = p ∙ ap (λ (k : ℕ). take (k * n) words) (add-one w ∙ ap suc e)
+
+-- ---- the handed parts
+
+-- of each list that is printed the part that has the rows
+pub record Picked (kind : Kind) (s : Sizes) (b part : Bench) : Type 0 where
+  pub positions : part.positions ≡ take (4 * s.vertices) b.positions
+  pub points : part.points ≡ take s.points b.points
+  pub lines : part.lines ≡ take (3 * s.lines) b.lines
+  pub areas : part.areas ≡ take (suc (area_corners kind) * s.areas) b.areas
+  pub volumes : part.volumes ≡ take (suc (volume_corners kind) * s.volumes) b.volumes
+  pub curves : part.curves ≡ take (2 * s.curves) b.curves
+  pub steps : part.curve_vertices ≡ take (2 * s.curve_vertices) b.curve_vertices
+
+elements_handed : {words part : List ℕ} (c n : ℕ) → Elements words c n → part ≡ take (suc c * n) words → Elements part c n
+elements_handed {words} c n e p =
+    record { few = e.few; room = omega (arith, ap length p, length-take-le (suc c * n) words e.room) }
+
+-- lists whose rows stand, and the parts of them that are handed on
+module _ {passes : ℕ} {kind : Kind} {s : Sizes} {b part : Bench} {out : List ℕ} (g : Stated passes kind s b out) (p : Picked kind s b part) where
+  rows_handed : (marks : List ℕ) → rows_of kind s (with_marks marks part) ≡ rows_of kind s (with_marks marks b)
+  unfolding rows_of
+  rows_handed marks =
+      let e1 = ap (λ (w : List Float). first_of (vertex_row w marks) s.vertices) p.positions ∙ vertices_part b.positions marks s.vertices in
+      let e2 = ap (λ (w : List ℕ). first_of (λ (i : ℕ). get_or w i 0) s.points) p.points ∙ points_part b.points s.points in
+      let e3 = ap (λ (w : List ℕ). first_of (element_row 2 w) s.lines) p.lines ∙ elements_part 2 s.lines b.lines g.elements.line.room in
+      let e4 =
+      ap (λ (w : List ℕ). first_of (element_row (area_corners kind) w) s.areas) p.areas
+      ∙ elements_part (area_corners kind) s.areas b.areas g.elements.area.room
+      in
+      let e5 =
+      ap (λ (w : List ℕ). first_of (element_row (volume_corners kind) w) s.volumes) p.volumes
+      ∙ elements_part (volume_corners kind) s.volumes b.volumes g.elements.volume.room
+      in
+      let e6 = ap (λ (w : List ℕ). first_of (curve_row w) s.curves) p.curves ∙ curves_part b.curves s.curves in
+      let e7 = ap (λ (w : List ℕ). first_of (step_row w) s.curve_vertices) p.steps ∙ steps_part b.curve_vertices s.curve_vertices in
+      λ j. record { vertices = e1 j; points = e2 j; lines = e3 j; areas = e4 j; volumes = e5 j; curves = e6 j; curve_vertices = e7 j }
+
+  pub listed_handed : (marks : List ℕ) → listed passes kind s (with_marks marks part) ≡ listed passes kind s (with_marks marks b)
+  listed_handed marks = ap (λ (r : Rows). Listing.listing passes (mesh_of r)) (rows_handed marks)
+
+  pub stated_handed : Stated passes kind s part out
+  stated_handed =
+      record {
+        vertices = omega (arith, ap length p.positions, length-take-le (4 * s.vertices) b.positions g.vertices);
+        point = omega (arith, ap length p.points, length-take-le s.points b.points g.point);
+        elements =
+            record {
+              line = elements_handed 2 s.lines g.elements.line p.lines;
+              area = elements_handed (area_corners kind) s.areas g.elements.area p.areas;
+              volume = elements_handed (volume_corners kind) s.volumes g.elements.volume p.volumes;
+            };
+        parts =
+            record {
+              room = omega (arith, ap length p.curves, length-take-le (2 * s.curves) b.curves g.parts.room);
+              vertices = omega (arith, ap length p.steps, length-take-le (2 * s.curve_vertices) b.curve_vertices g.parts.vertices);
+              sum = ap (λ (w : List ℕ). curve_lengths (first_of (curve_row w) s.curves)) p.curves ∙ ap curve_lengths (curves_part b.curves s.curves) ∙ g.parts.sum;
+            };
+        room = omega (arith, g.room, ap length (listed_handed []));
+      }
+
+-- ---- as they are left on one of two benches
+
+-- the side of two lists is the list of the side
+side_list : {A : Type 0} (list : Bench → List A) (n : ℕ) (x y : Bench) → side n (list x) (list y) ≡ list (side n x y)
+unfolding side
+side_list {A} list n x y = go (eqb (n % 2) 0)
+  where
+    go : (t : Bool) → cond t (list x) (list y) ≡ list (cond t x y)
+    go true = refl
+    go false = refl
+
+module _
+    (passes : ℕ) (kind : Kind) (s : Sizes) (x y part : Bench) {area volume : ℕ} (e : area ≡ area_corners kind) (f : volume ≡ volume_corners kind)
+    (p : part.positions ≡ take (4 * s.vertices) (side passes x.positions y.positions)) (q : part.points ≡ take s.points (side passes x.points y.points))
+    (l : part.lines ≡ take (3 * s.lines) (side passes x.lines y.lines)) (a : part.areas ≡ take ((area + 1) * s.areas) (side passes x.areas y.areas))
+    (v : part.volumes ≡ take ((volume + 1) * s.volumes) (side passes x.volumes y.volumes)) (c : part.curves ≡ take (2 * s.curves) (side passes x.curves y.curves))
+    (t : part.curve_vertices ≡ take (2 * s.curve_vertices) (side passes x.curve_vertices y.curve_vertices)) where
+  pub picked : Picked kind s (side passes x y) part
+  picked =
+      record {
+        positions = p ∙ ap (take (4 * s.vertices)) (side_list (λ (b : Bench). b.positions) passes x y);
+        points = q ∙ ap (take s.points) (side_list (λ (b : Bench). b.points) passes x y);
+        lines = l ∙ ap (take (3 * s.lines)) (side_list (λ (b : Bench). b.lines) passes x y);
+        areas = wide_part _ _ _ _ e a ∙ ap (take (suc (area_corners kind) * s.areas)) (side_list (λ (b : Bench). b.areas) passes x y);
+        volumes = wide_part _ _ _ _ f v ∙ ap (take (suc (volume_corners kind) * s.volumes)) (side_list (λ (b : Bench). b.volumes) passes x y);
+        curves = c ∙ ap (take (2 * s.curves)) (side_list (λ (b : Bench). b.curves) passes x y);
+        steps = t ∙ ap (take (2 * s.curve_vertices)) (side_list (λ (b : Bench). b.curve_vertices) passes x y);
+      }

@@ -1,16 +1,17 @@
 -- The program's refinement of an accepted mesh: the run is the definition's under 1,024 cells for each list, and its text has room. Assumes nothing.
 use mathlib.Core.Path.{◌≡◌, refl, sym, ◌∙◌, ap, subst}
-use mathlib.Core.Bool.{Bool, true, false, cond}
+use mathlib.Core.Bool.{true}
 use mathlib.Core.List.{List, [], ◌∷◌}
-use Prim.Native.Nat.{ℕ, ◌*◌, ◌/◌, ◌%◌, ◌≤◌, ◌<◌}
+use Prim.Native.Nat.{ℕ, ◌*◌, ◌/◌, ◌≤◌, ◌<◌}
 use native.Mathlib.Omega.{arith}
 use lib.Dec.{eqb}
 use lib.ListN.{length}
 use borrow.Author.Tests.{not-false}
+use Rattle.std.specs.Prelude.{Ok, Err}
 use Rattle.geom.specs.declared.answer.Sizes.{Sizes}
-use Rattle.geom.specs.declared.answer.Ended.TheVariants.{Finished, Refused}
 use Rattle.geom.specs.declared.answer.Refined.{Refined}
-use Rattle.geom.specs.Answers.{Verdict, accepted, refused, verdict_of, Told, told}
+use Rattle.geom.specs.declared.refusal.Refusal.{Refusal}
+use Rattle.geom.specs.Answers.{Verdict, accepted, refused, verdict_of, number_of, Told, told}
 use Rattle.geom.specs.Book.{Kind, cubes, simplices}
 use Rattle.geom.specs.Listing.{listing, refusal}
 use Rattle.geom.specs.Mesh.{Mesh, sizes_of}
@@ -23,36 +24,16 @@ use Rattle.geom.proofs.Lists.{and_true_left, and_true_right, below_number}
 use Rattle.geom.proofs.Accepted as Accepted
 use Rattle.geom.proofs.Back.{Stepped}
 use Rattle.geom.proofs.Forming.{rows_stepped}
-use Rattle.judge.specs.Judged.{bench}
 use Rattle.geom.proofs.Within.{within_facts, within_holds}
 use Rattle.geom.proofs.Equal.{equal_holds}
 use Rattle.judge.proofs.Verdicts.{counts_positions, counts_marked, counts_numbered}
 use Rattle.subdivision.specs.Entry.{Refines}
-use Rattle.listing.specs.Printed.{listed, Stated}
+use Rattle.listing.specs.Printed.{listed, with_marks, Stated}
 use Rattle.listing.proofs.Whole.{any_marks}
 use Rattle.desk.specs.Desk.{Handed}
 use Rattle.desk.proofs.Cells.{same_lengths, cells_lent}
 use Rattle.printing.proofs.Lengths.{Short, listing_short}
 use Rattle.printing.proofs.Held.{run_kept, run_short}
-
--- ---- the bench that is listed
-
--- the sides of the lists are the lists of the side
-abbrev sides : ℕ → Bench → Bench → Bench
-sides n x y =
-    bench (side n x.positions y.positions) (side n x.marks y.marks) (side n x.points y.points) (side n x.lines y.lines)
-    (side n x.areas y.areas) (side n x.volumes y.volumes) (side n x.curves y.curves) (side n x.curve_vertices y.curve_vertices)
-
-side_bench : (n : ℕ) (x y : Bench) → sides n x y ≡ side n x y
-unfolding side
-side_bench n x y = go (eqb (n % 2) 0)
-  where
-    go : (t : Bool)
-        → bench (cond t x.positions y.positions) (cond t x.marks y.marks) (cond t x.points y.points) (cond t x.lines y.lines)
-        (cond t x.areas y.areas) (cond t x.volumes y.volumes) (cond t x.curves y.curves) (cond t x.curve_vertices y.curve_vertices)
-        ≡ cond t x y
-    go true = refl
-    go false = refl
 
 -- ---- numbers that were judged
 
@@ -75,9 +56,9 @@ few simplices = omega arith
 -- ---- the run
 
 module _
-    (kind : Kind) (s : Sizes) (time depth : ℕ) (d after : Desk) (r : Refined) (out : List ℕ)
+    {kind : Kind} {s : Sizes} {time depth : ℕ} {d after : Desk} (r : Refined) {out : List ℕ} (q : Refines kind s d after depth time (told r))
     (h : Handed kind s time d.first d.second out) (book : length d.book ≡ 1024 * BOOK_WORDS) (sums : length d.sums ≡ 4096)
-    (tallies : length d.tallies ≡ 2048) (q : Refines kind s d after depth time (told r)) where
+    (tallies : length d.tallies ≡ 2048) where
   -- the mesh handed in, and the definition's run
   abbrev mesh : Mesh
   mesh = mesh_of (rows_of kind s d.first)
@@ -132,19 +113,19 @@ module _
   stands = (subst (λ (x : Subdivided). Leaves kind x d after) ran_is q.leaves).0
 
   -- refused in a pass: only that is printed
-  pub prints_refusal : (n : ℕ) → r.ended ≡ Refused n → refusal n r.passes ≡ printed run_of
+  pub prints_refusal : {why : Refusal} {n : ℕ} → r.ended ≡ Err why → n ≡ number_of why → refusal n r.passes ≡ printed run_of
   unfolding printed verdict_of
-  prints_refusal n e =
-      let v : run_of.verdict ≡ refused n = sym verdict_is ∙ ap verdict_of e in
+  prints_refusal {why} {n} e k =
+      let v : run_of.verdict ≡ refused n = sym verdict_is ∙ ap verdict_of e ∙ ap refused (sym k) in
       ap (refusal n) passes_is ∙ sym (ap (λ (x : Verdict). printed_by x run_of) v)
 
   -- ---- finished: the mesh that is left is listed
 
   abbrev left : Bench
-  left = sides r.passes after.first after.second
+  left = side r.passes after.first after.second
 
   left_is : left ≡ side run_of.passes after.first after.second
-  left_is = side_bench r.passes after.first after.second ∙ ap (λ (n : ℕ). side n after.first after.second) passes_is
+  left_is = ap (λ (n : ℕ). side n after.first after.second) passes_is
 
   counts : counts_hold kind r.sizes left ≡ true
   unfolding StandsFor
@@ -158,11 +139,14 @@ module _
       ∙ ap (λ (b : Bench). mesh_of (rows_of kind (sizes_of run_of.left.mesh) b)) left_is
       ∙ stands.2
 
-  pub prints_listing : r.ended ≡ Finished → listed r.passes kind r.sizes left ≡ printed run_of
+  pub prints_listing : {u : Unit} → r.ended ≡ Ok u → (marks : List ℕ) → listed r.passes kind r.sizes (with_marks marks left) ≡ printed run_of
   unfolding printed verdict_of
-  prints_listing e =
+  prints_listing {u} e marks =
       let v : run_of.verdict ≡ accepted = sym verdict_is ∙ ap verdict_of e in
-      ap (listing r.passes) mesh_is ∙ ap (λ (n : ℕ). listing n run_of.left.mesh) passes_is ∙ sym (ap (λ (x : Verdict). printed_by x run_of) v)
+      any_marks r.passes kind r.sizes left (counts_marked kind r.sizes left counts).parts marks left.marks
+      ∙ ap (listing r.passes) mesh_is
+      ∙ ap (λ (n : ℕ). listing n run_of.left.mesh) passes_is
+      ∙ sym (ap (λ (x : Verdict). printed_by x run_of) v)
 
   stepped : All Stepped run_of.left.mesh.lists.curves
   unfolding mesh_of
@@ -192,7 +176,7 @@ module _
 
   pub lists_left :
       depth < 256
-      → Stated r.passes kind r.sizes left.positions left.points left.lines left.areas left.volumes left.curves left.curve_vertices out
+      → Stated r.passes kind r.sizes left out
   lists_left deep =
       let k = run_kept kind (eqb time 1) SHEET_LENT depth mesh (within_facts (sizes_of mesh) SHEET_CELLS h.cells) in
       let marked = counts_marked kind r.sizes left counts in
@@ -208,7 +192,7 @@ module _
               small,
               h.lent.room,
               ap length
-                  (any_marks r.passes kind r.sizes left.positions left.points left.lines left.areas left.volumes left.curves left.curve_vertices marked.parts [] left.marks
+                  (any_marks r.passes kind r.sizes left marked.parts [] left.marks
                   ∙ ap (listing r.passes) mesh_is
                   ∙ ap (λ (n : ℕ). listing n run_of.left.mesh) passes_is),
             );

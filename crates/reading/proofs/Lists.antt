@@ -6,7 +6,10 @@ use Prim.Native.Nat.{ℕ, ◌+◌, ◌*◌, ◌≤◌, ◌<◌}
 use native.Mathlib.Omega.{arith}
 use lib.ListN.{length, drop, drop_of_length-le}
 use lib.Seq.{drop-cons}
+use Rattle.std.specs.Prelude.{Result, Ok, Err}
 use Rattle.geom.specs.declared.answer.Sizes.{Sizes}
+use Rattle.geom.specs.declared.refusal.Refusal.{Refusal}
+use Rattle.geom.specs.Answers.{number_of}
 use Rattle.geom.specs.declared.kind.Kind as Declared
 use Rattle.geom.specs.Book.{Kind}
 use Rattle.geom.specs.Kinds.{kind_of}
@@ -18,7 +21,7 @@ use Rattle.fields.specs.Fields.{word_at, vertex_at, element_at, wide, Counted, W
 use Rattle.fields.specs.Listed.{listed, Listed}
 use Rattle.reading.specs.Parts.{strung}
 use Rattle.fields.proofs.Listing.{first_stops, list_stops}
-use Rattle.reading.specs.declared.judging.Found.{Found}
+use Rattle.reading.specs.declared.judging.Mesh as Found
 use Rattle.reading.specs.Places.{end_place, mesh_at, Fits, Lain}
 
 -- the lists, and that nothing is left over
@@ -28,13 +31,13 @@ lying kind lent = do
   end (record { kind = kind; mesh = mesh })
 
 -- the mesh is read from the lists
-abbrev pub Lies : Found → Declared.Kind → Sizes → List ℕ → Type 0
-Lies (Found.Mesh k s) kind lent bytes =
-    (k ≡ kind)
-    × (lying (kind_of kind) lent (drop 2 bytes) ≡ read (record { kind = kind_of kind; mesh = mesh_at (kind_of kind) s bytes }) [])
-    × Lain (kind_of kind) s bytes
-    × Fits s lent
-Lies (Found.Refused n) kind lent bytes = lying (kind_of kind) lent (drop 2 bytes) ≡ stop n
+abbrev pub Lies : Result Found.Mesh Refusal → Declared.Kind → Sizes → List ℕ → Type 0
+Lies (Ok m) kind lent bytes =
+    (m.kind ≡ kind)
+    × (lying (kind_of kind) lent (drop 2 bytes) ≡ read (record { kind = kind_of kind; mesh = mesh_at (kind_of kind) m.sizes bytes }) [])
+    × Lain (kind_of kind) m.sizes bytes
+    × Fits m.sizes lent
+Lies (Err r) kind lent bytes = lying (kind_of kind) lent (drop 2 bytes) ≡ stop (number_of r)
 
 -- 4: bytes left over
 end_some : (x : Figure) (bytes : List ℕ) (at : ℕ) → at < length bytes → end x (drop at bytes) ≡ stop 4

@@ -1,15 +1,17 @@
 -- The lists of a file by their places: where each count stands, the mesh that the bytes at those places are, and what a file is found to be.
 -- Says nothing of what is right to read, which is geom's File.
 -- Assumes nothing.
-use Rattle.std.specs.Prelude.{◌≡◌, List, [], ℕ, ◌+◌, ◌*◌, ◌≤◌, ◌<◌, length}
+use Rattle.std.specs.Prelude.{◌≡◌, List, [], ℕ, ◌+◌, ◌*◌, ◌≤◌, ◌<◌, Result, Ok, Err, length}
 use Rattle.geom.specs.declared.answer.Sizes.{Sizes}
+use Rattle.geom.specs.declared.refusal.Refusal.{Refusal}
+use Rattle.geom.specs.Answers.{number_of}
 use Rattle.geom.specs.Book.{Kind}
 use Rattle.geom.specs.Kinds.{kind_of}
 use Rattle.geom.specs.Mesh.{Mesh, sizes_of}
 use Rattle.geom.specs.Memory.{area_corners, volume_corners}
 use Rattle.geom.specs.File.{read, stop, figure}
 use Rattle.fields.specs.Fields.{word_at, vertices_at, numbers_at, wide, elements_at, curve_place, curves_at}
-use Rattle.reading.specs.declared.judging.Found.{Found}
+use Rattle.reading.specs.declared.judging.Mesh as Found
 
 -- ---- by places
 
@@ -73,6 +75,6 @@ pub record Figured (kind : Kind) (s : Sizes) (lent : Kind → Sizes) (bytes : Li
   pub lain : Lain kind s bytes
   pub fits : Fits s (lent kind)
 
-abbrev pub Finds : Found → (Kind → Sizes) → List ℕ → Type 0
-Finds (Found.Mesh k s) lent bytes = Figured (kind_of k) s lent bytes
-Finds (Found.Refused n) lent bytes = figure lent bytes ≡ stop n
+abbrev pub Finds : Result Found.Mesh Refusal → (Kind → Sizes) → List ℕ → Type 0
+Finds (Ok m) lent bytes = Figured (kind_of m.kind) m.sizes lent bytes
+Finds (Err r) lent bytes = figure lent bytes ≡ stop (number_of r)

@@ -1,19 +1,18 @@
 -- The parts of a file in their order, as one reader takes them: each where the one before left it, whatever that came to.
 -- Says nothing of which refusal is the first.
 -- Assumes nothing.
-use Rattle.std.specs.Prelude.{List, ℕ, zero, suc}
+use Rattle.std.specs.Prelude.{List, ℕ, zero, suc, Result, Ok, Err}
 use Rattle.geom.specs.declared.kind.Kind.{Kind}
 use Rattle.geom.specs.declared.kind.Kind.TheVariants.{Cubes, Simplices}
 use Rattle.geom.specs.Kinds.{kind_of}
 use Rattle.judge.specs.declared.counts.Lengths.{Lengths}
 use Rattle.judge.specs.Counts.{cells_of}
-use Rattle.fields.specs.declared.field.Field.{Field}
-use Rattle.fields.specs.declared.field.Field.TheVariants.{Value, Refused}
-use Rattle.reading.specs.declared.part.Part.TheVariants as Part
+use Rattle.geom.specs.declared.refusal.Refusal.{Refusal}
 use Rattle.reading.specs.declared.part.Taken.{Taken}
 use Rattle.reading.specs.declared.reader.Reader.{Reader}
 use Rattle.reading.specs.declared.walk.Lent.{Lent}
 use Rattle.reading.specs.declared.walk.Walked.{Walked}
+use Rattle.reading.specs.Parts as Part
 use Rattle.reading.specs.Parts.{Takes}
 
 -- the same file, behind what was taken
@@ -21,13 +20,13 @@ abbrev pub moved : Reader → Taken → Reader
 moved r t = record { src = r.src; at = t.at }
 
 -- the kind that a byte says; cubes where it says none, or wasn't read
-abbrev pub kind_for : Field → Kind
-kind_for (Value zero) = Cubes
-kind_for (Value (suc zero)) = Simplices
-kind_for (Value (suc (suc _))) = Cubes
-kind_for (Refused _) = Cubes
+abbrev pub kind_for : Result ℕ Refusal → Kind
+kind_for (Ok zero) = Cubes
+kind_for (Ok (suc zero)) = Simplices
+kind_for (Ok (suc (suc _))) = Cubes
+kind_for (Err _) = Cubes
 
-abbrev pub lent_of : Field → Lengths → Lent
+abbrev pub lent_of : Result ℕ Refusal → Lengths → Lent
 lent_of f first = record { kind = kind_for f; cells = cells_of (kind_of (kind_for f)) first }
 
 -- version, kind, the six lists, the end

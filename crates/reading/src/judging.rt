@@ -4,94 +4,67 @@ ghost use Rattle.std.specs.Prelude.{◌≡◌};
 ghost use Rattle.geom.specs.Book as Book;
 ghost use Rattle.judge.specs.Counts.{cells_of};
 ghost use Rattle.reading.specs.Places.{Finds};
-ghost use Rattle.reading.specs.Picked.{kind_in, header_of, then_of, refusal_of, value_of, sizes_in, lists_in, found_of};
+ghost use Rattle.reading.specs.Picked.{kind_in, header_of, refusal_of, value_of, sizes_in, lists_in, found_of};
 
 use crate::part::Taken;
 use crate::walk::{Walked, walk};
-use fields::field::Field;
-use geom::answer::{Ended, Opened, Sizes};
+use geom::answer::Sizes;
 use geom::kind::Kind;
+use geom::refusal::Refusal;
 use judge::counts::Lengths;
 
-// What a file is found to be: a mesh of a kind, with the sizes of its lists, or refused with the number.
+// The mesh that a file is found to be: its kind, and the sizes of its lists.
 #[derive(Clone, Copy)]
-pub enum Found {
-    Mesh { kind: Kind, sizes: Sizes },
-    Refused(u8),
+pub struct Mesh {
+    pub kind: Kind,
+    pub sizes: Sizes,
 }
 
 // 2: the kind byte, 0 cubes, 1 simplices.
-pub fn kind_byte(field: Field) -> Opened
+pub fn kind_byte(field: Result<u32, Refusal>) -> Result<Kind, Refusal>
     ensures { result ≡ kind_in field }
 {
-    match field {
-        Field::Value(kind) => {
-            if kind == 0 {
-                return Opened::Cubes;
-            }
-            if kind == 1 {
-                return Opened::Simplices;
-            }
-            Opened::Refused(2)
-        }
-        Field::Refused(n) => Opened::Refused(n),
+    match field? {
+        0 => Ok(Kind::Cubes),
+        1 => Ok(Kind::Simplices),
+        _ => Err(Refusal::Kind),
     }
 }
 
 // 1: the version byte; then the kind. The reader has read both, and the version is judged first.
-pub fn header(first: Field, second: Field) -> Opened
+pub fn header(first: Result<u32, Refusal>, second: Result<u32, Refusal>) -> Result<Kind, Refusal>
     ensures { result ≡ header_of first second }
 {
-    match first {
-        Field::Value(version) => {
-            if version != 1 {
-                return Opened::Refused(1);
-            }
-            kind_byte(second)
-        }
-        Field::Refused(n) => Opened::Refused(n),
+    if first? != 1 {
+        return Err(Refusal::Version);
     }
-}
-
-// What came before, and if that was finished, a part behind it.
-pub fn then(before: Ended, t: Taken) -> Ended
-    ensures { result ≡ then_of before t.field }
-{
-    let field = t.field;
-    let Ended::Finished = before else {
-        return before;
-    };
-    match field {
-        Field::Value(_) => Ended::Finished,
-        Field::Refused(n) => Ended::Refused(n),
-    }
+    kind_byte(second)
 }
 
 // The first refusal of the lists; 4 bytes left over comes last.
-pub fn refusal(w: Walked) -> Ended
+#[tactic(auto, unfolding(crate::specs::Picked::refusal_of))]
+pub fn refusal(w: Walked) -> Result<(), Refusal>
     ensures { result ≡ refusal_of w }
 {
-    let ended = then(Ended::Finished, w.vertices);
-    let ended = then(ended, w.points);
-    let ended = then(ended, w.lines);
-    let ended = then(ended, w.areas);
-    let ended = then(ended, w.volumes);
-    let ended = then(ended, w.curves);
-    then(ended, w.left)
+    w.vertices.field?;
+    w.points.field?;
+    w.lines.field?;
+    w.areas.field?;
+    w.volumes.field?;
+    w.curves.field?;
+    w.left.field?;
+    Ok(())
 }
 
 // The number that was read.
 pub fn value_of(t: Taken) -> usize
     ensures { result ≡ value_of t.field }
 {
-    let field = t.field;
-    match field {
-        Field::Value(n) => n as usize,
-        Field::Refused(_) => 0,
-    }
+    t.field.unwrap_or(0) as usize
 }
 
 // How many entries each list has.
+#[tactic(auto, unfolding(crate::specs::Picked::sizes_in))]
 pub fn sizes_in(w: Walked) -> Sizes
     ensures { result ≡ sizes_in w }
 {
@@ -107,35 +80,26 @@ pub fn sizes_in(w: Walked) -> Sizes
 }
 
 // The lists of a mesh of a kind.
-pub fn lists_of(kind: Kind, w: Walked) -> Found
+pub fn lists_of(kind: Kind, w: Walked) -> Result<Mesh, Refusal>
     ensures { result ≡ lists_in (refusal_of w) kind w }
 {
-    match refusal(w) {
-        Ended::Finished => Found::Mesh {
-            kind,
-            sizes: sizes_in(w),
-        },
-        Ended::Refused(n) => Found::Refused(n),
-    }
+    refusal(w)?;
+    Ok(Mesh {
+        kind,
+        sizes: sizes_in(w),
+    })
 }
 
 // What the walk found.
-pub fn found_by(w: Walked) -> Found
+pub fn found_by(w: Walked) -> Result<Mesh, Refusal>
     ensures { result ≡ found_of w }
 {
-    let version = w.version;
-    let kind = w.kind;
-    let first = version.field;
-    let second = kind.field;
-    match header(first, second) {
-        Opened::Cubes => lists_of(Kind::Cubes, w),
-        Opened::Simplices => lists_of(Kind::Simplices, w),
-        Opened::Refused(n) => Found::Refused(n),
-    }
+    let kind = header(w.version.field, w.kind.field)?;
+    lists_of(kind, w)
 }
 
 // A whole file, against the lent cells of its kind.
-pub fn figure(file: &[u8], first: Lengths) -> Found
+pub fn figure(file: &[u8], first: Lengths) -> Result<Mesh, Refusal>
     ensures { Finds result (λ (kind : Book.Kind). cells_of kind first) file.now }
 {
     found_by(walk(file, first))

@@ -1,4 +1,4 @@
-// Document 01, section 8: the reader that is set up over one file and walks it, and what the file is found to be. Nothing is written.
+// The reader that is set up over one file and walks it, and what the file is found to be. Nothing is written.
 #![tactic(auto)]
 
 pub mod judging;

@@ -3,12 +3,13 @@
 ghost use Rattle.std.specs.Prelude.{◌≡◌};
 ghost use Rattle.reading.specs.Walk.{kind_for, lent_of, Walks};
 
-use crate::part::{Part, Taken};
-use crate::reader::{next, set_up};
-use fields::field::Field;
+use crate::judging::kind_byte;
+use crate::part::Taken;
+use crate::reader::Reader;
 use geom::answer::Sizes;
 use geom::kind::Kind;
-use judge::counts::{Lengths, cells};
+use geom::refusal::Refusal;
+use judge::counts::{Lengths, area_corners, cells, volume_corners};
 
 // What the lists are judged against: the kind, and the lent cells of that kind.
 #[derive(Clone, Copy)]
@@ -32,26 +33,17 @@ pub struct Walked {
 }
 
 // The kind that a byte says; where it says none the walk goes on with cubes.
-pub fn kind_for(field: Field) -> Kind
+pub fn kind_for(field: Result<u32, Refusal>) -> Kind
     ensures { result ≡ kind_for field }
 {
-    match field {
-        Field::Value(kind) => {
-            if kind == 1 {
-                return Kind::Simplices;
-            }
-            Kind::Cubes
-        }
-        Field::Refused(_) => Kind::Cubes,
-    }
+    kind_byte(field).unwrap_or(Kind::Cubes)
 }
 
 // The lent cells of that kind.
 pub fn lent_for(t: Taken, first: Lengths) -> Lent
     ensures { result ≡ lent_of t.field first }
 {
-    let field = t.field;
-    let kind = kind_for(field);
+    let kind = kind_for(t.field);
     Lent {
         kind,
         cells: cells(kind, first),
@@ -63,55 +55,19 @@ pub fn lent_for(t: Taken, first: Lengths) -> Lent
 pub fn walk(file: &[u8], first: Lengths) -> Walked
     ensures { Walks (lent_of result.kind.field first) file.now result }
 {
-    let mut r = set_up(file, 0);
-    let version = next(&mut r, Part::Byte);
-    let kind = next(&mut r, Part::Byte);
+    let mut r = Reader::new(file, 0);
+    let version = r.byte();
+    let kind = r.byte();
     let lent = lent_for(kind, first);
-    let vertices = next(
-        &mut r,
-        Part::Vertices {
-            lent: lent.cells.vertices,
-        },
-    );
-    let points = next(
-        &mut r,
-        Part::Points {
-            lent: lent.cells.points,
-            count: vertices.n,
-        },
-    );
-    let lines = next(
-        &mut r,
-        Part::Lines {
-            lent: lent.cells.lines,
-            count: vertices.n,
-        },
-    );
-    let areas = next(
-        &mut r,
-        Part::Areas {
-            kind: lent.kind,
-            lent: lent.cells.areas,
-            count: vertices.n,
-        },
-    );
-    let volumes = next(
-        &mut r,
-        Part::Volumes {
-            kind: lent.kind,
-            lent: lent.cells.volumes,
-            count: vertices.n,
-        },
-    );
-    let curves = next(
-        &mut r,
-        Part::Curves {
-            lent: lent.cells.curves,
-            count: vertices.n,
-            room: lent.cells.curve_vertices,
-        },
-    );
-    let left = next(&mut r, Part::End);
+    let cells = lent.cells;
+    let vertices = r.vertices(cells.vertices);
+    let count = vertices.n;
+    let points = r.points(cells.points, count);
+    let lines = r.lines(cells.lines, count);
+    let areas = r.areas(lent.kind, cells.areas, count);
+    let volumes = r.volumes(lent.kind, cells.volumes, count);
+    let curves = r.curves(cells.curves, count, cells.curve_vertices);
+    let left = r.end();
     Walked {
         version,
         kind,

@@ -2,116 +2,116 @@
 use crate::mesh::{end, mesh, refused};
 use crate::print::spaced;
 use figure::load;
-use geom::answer::Opened;
+use geom::answer::Sizes;
+use geom::bench::{BenchMut, Work};
 use geom::kind::Kind;
 use std::io;
 use std::io::Write;
 use subdivision::subdivide;
 
-// Fresh cells, so few that small meshes are refused for each of them: 32 vertices, 12 points, 16 lines, 16 squares or 20 triangles, 20 cubes or
-// 36 tetrahedra, 12 curves with 18 vertices, and 24 entries of the book.
-pub fn on_desk<W: Write>(out: &mut W, depth: u8, time: u8, file: &[u8]) -> io::Result<()> {
-    let mut positions = [0.0; 128];
-    let mut marks = [0; 96];
-    let mut points = [0; 12];
-    let mut lines = [0; 48];
-    let mut areas = [0; 80];
-    let mut volumes = [0; 180];
-    let mut curves = [0; 24];
-    let mut steps = [0; 36];
-    let mut other_positions = [0.0; 128];
-    let mut other_marks = [0; 96];
-    let mut other_points = [0; 12];
-    let mut other_lines = [0; 48];
-    let mut other_areas = [0; 80];
-    let mut other_volumes = [0; 180];
-    let mut other_curves = [0; 24];
-    let mut other_steps = [0; 36];
-    let mut book = [0; 144];
-    let mut sums = [0.0; 128];
-    let mut tallies = [0; 64];
-    let reading = load(
-        file,
-        &mut positions,
-        &mut marks,
-        &mut points,
-        &mut lines,
-        &mut areas,
-        &mut volumes,
-        &mut curves,
-        &mut steps,
-        &other_positions,
-        &other_marks,
-        &other_points,
-        &other_lines,
-        &other_areas,
-        &other_volumes,
-        &other_curves,
-        &other_steps,
-    );
-    let opened = reading.opened;
-    if let Opened::Refused(n) = opened {
-        out.write_all(b"\nfile")?;
-        return refused(out, n);
-    }
-    let kind = kind_of(opened);
-    let answer = subdivide(
-        kind,
-        &mut positions,
-        &mut marks,
-        &mut points,
-        &mut lines,
-        &mut areas,
-        &mut volumes,
-        &mut curves,
-        &mut steps,
-        &mut other_positions,
-        &mut other_marks,
-        &mut other_points,
-        &mut other_lines,
-        &mut other_areas,
-        &mut other_volumes,
-        &mut other_curves,
-        &mut other_steps,
-        &mut book,
-        &mut sums,
-        &mut tallies,
-        reading.sizes,
-        depth,
-        time,
-    );
-    let ended = answer.ended;
-    let passes = answer.passes;
-    let sizes = answer.sizes;
-    end(out, b"\nrefinement", ended)?;
-    out.write_all(b" after")?;
-    spaced(out, passes as usize)?;
-    if passes % 2 == 0 {
-        mesh(
-            out, kind, sizes, &positions, &marks, &points, &lines, &areas, &volumes, &curves,
-            &steps,
-        )
-    } else {
-        mesh(
-            out,
-            kind,
-            sizes,
-            &other_positions,
-            &other_marks,
-            &other_points,
-            &other_lines,
-            &other_areas,
-            &other_volumes,
-            &other_curves,
-            &other_steps,
-        )
+// The cells of a bench, so few that small meshes are refused for each of them: 32 vertices, 12 points, 16 lines, 16 squares or 20 triangles, 20 cubes
+// or 36 tetrahedra, and 12 curves with 18 vertices. One struct for these and for the sizes of other programs would take eight const parameters.
+#[derive(Drop)]
+struct Cells {
+    positions: [f32; 128],
+    marks: [u32; 96],
+    points: [u32; 12],
+    lines: [u32; 48],
+    areas: [u32; 80],
+    volumes: [u32; 180],
+    curves: [u32; 24],
+    steps: [u32; 36],
+}
+
+impl Cells {
+    fn blank() -> Self {
+        Cells {
+            positions: [0.0; 128],
+            marks: [0; 96],
+            points: [0; 12],
+            lines: [0; 48],
+            areas: [0; 80],
+            volumes: [0; 180],
+            curves: [0; 24],
+            steps: [0; 36],
+        }
     }
 }
 
-// The kind of a mesh that was read.
-fn kind_of(opened: Opened) -> Kind {
-    if let Opened::Cubes = opened {
-        return Kind::Cubes;
+// A file on a fresh desk, whose book has 24 entries.
+pub fn on_desk<W: Write>(out: &mut W, depth: u8, time: u8, file: &[u8]) -> io::Result<()> {
+    let mut cells = Cells::blank();
+    let mut other_cells = Cells::blank();
+    let mut book = [0; 144];
+    let mut sums = [0.0; 128];
+    let mut tallies = [0; 64];
+    let mut first = BenchMut {
+        positions: &mut cells.positions,
+        marks: &mut cells.marks,
+        points: &mut cells.points,
+        lines: &mut cells.lines,
+        areas: &mut cells.areas,
+        volumes: &mut cells.volumes,
+        curves: &mut cells.curves,
+        steps: &mut cells.steps,
+    };
+    let mut second = BenchMut {
+        positions: &mut other_cells.positions,
+        marks: &mut other_cells.marks,
+        points: &mut other_cells.points,
+        lines: &mut other_cells.lines,
+        areas: &mut other_cells.areas,
+        volumes: &mut other_cells.volumes,
+        curves: &mut other_cells.curves,
+        steps: &mut other_cells.steps,
+    };
+    let mut work = Work {
+        book: &mut book,
+        sums: &mut sums,
+        tallies: &mut tallies,
+    };
+    replayed(out, depth, time, file, &mut first, &mut second, &mut work)
+}
+
+// A file on a desk, refined, and the mesh that is left.
+fn replayed<W: Write>(
+    out: &mut W,
+    depth: u8,
+    time: u8,
+    file: &[u8],
+    first: &mut BenchMut,
+    second: &mut BenchMut,
+    work: &mut Work,
+) -> io::Result<()> {
+    let reading = load(file, first, &second.read());
+    let opened = reading.opened;
+    match opened {
+        Ok(kind) => refine(out, kind, reading.sizes, depth, time, first, second, work),
+        Err(why) => {
+            out.write_all(b"\nfile")?;
+            refused(out, why)
+        }
     }
-    Kind::Simplices
+}
+
+// The mesh on the first bench refined, and what is left of it.
+fn refine<W: Write>(
+    out: &mut W,
+    kind: Kind,
+    sizes: Sizes,
+    depth: u8,
+    time: u8,
+    first: &mut BenchMut,
+    second: &mut BenchMut,
+    work: &mut Work,
+) -> io::Result<()> {
+    let answer = subdivide(kind, first, second, work, sizes, depth, time);
+    end(out, b"\nrefinement", answer.ended)?;
+    out.write_all(b" after")?;
+    spaced(out, answer.passes as usize)?;
+    if answer.passes % 2 == 0 {
+        mesh(out, kind, answer.sizes, &first.read())
+    } else {
+        mesh(out, kind, answer.sizes, &second.read())
+    }
 }

@@ -10,10 +10,23 @@ pub fn spaced<W: Write>(out: &mut W, n: usize) -> io::Result<()> {
     write!(out, " {n}")
 }
 
-fn bits<W: Write>(out: &mut W, c: f32) -> io::Result<()> {
-    let mut text = [b' '; 9];
-    hexadecimal(pattern(c), &mut text, 1);
-    out.write_all(&text)
+// What a list is made of.
+pub trait Entry {
+    fn print<W: Write>(&self, out: &mut W) -> io::Result<()>;
+}
+
+impl Entry for u32 {
+    fn print<W: Write>(&self, out: &mut W) -> io::Result<()> {
+        spaced(out, *self as usize)
+    }
+}
+
+impl Entry for f32 {
+    fn print<W: Write>(&self, out: &mut W) -> io::Result<()> {
+        let mut text = [b' '; 9];
+        hexadecimal(pattern(*self), &mut text, 1);
+        out.write_all(&text)
+    }
 }
 
 // A row starts where the width says so.
@@ -28,40 +41,21 @@ fn head<W: Write>(out: &mut W, name: &[u8], i: usize, width: usize) -> io::Resul
 }
 
 // So many rows of a list.
-pub fn rows<W: Write>(
+pub fn rows<W: Write, E: Entry>(
     out: &mut W,
     name: &[u8],
-    words: &[u32],
+    list: &[E],
     width: usize,
     count: usize,
 ) -> io::Result<()>
     requires { 0 < width }
 {
-    for (i, word) in words.iter().enumerate() {
+    for (i, entry) in list.iter().enumerate() {
         if count <= i / width {
             break;
         }
         head(out, name, i, width)?;
-        spaced(out, *word as usize)?;
-    }
-    Ok(())
-}
-
-pub fn number_rows<W: Write>(
-    out: &mut W,
-    name: &[u8],
-    numbers: &[f32],
-    width: usize,
-    count: usize,
-) -> io::Result<()>
-    requires { 0 < width }
-{
-    for (i, number) in numbers.iter().enumerate() {
-        if count <= i / width {
-            break;
-        }
-        head(out, name, i, width)?;
-        bits(out, *number)?;
+        entry.print(out)?;
     }
     Ok(())
 }

@@ -1,3 +1,2 @@
 mod Exactly
 mod Patterns
-mod Tallies

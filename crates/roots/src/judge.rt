@@ -11,13 +11,6 @@ pub const FIELD: u32 = 0x0080_0000;
 
 pub const INFINITY: u32 = 0x7F80_0000;
 
-// What the root of a pattern's number is.
-#[derive(Clone, Copy)]
-pub enum Answer {
-    Bits(u32),
-    NotANumber,
-}
-
 // Which kind of number a pattern stands for, and whether its root is right. A NaN can't be made of its pattern.
 #[derive(Clone, Copy)]
 pub enum Verdict {
@@ -27,69 +20,43 @@ pub enum Verdict {
     LeftOut,
 }
 
-// The root under test, of the number with this pattern.
-pub fn root_at(pattern: u32) -> Answer
+// The pattern of the root under test, of the number with this pattern: none where the root is not a number.
+pub fn root_at(pattern: u32) -> Option<u32>
     requires { pattern % 2 ^ 31 ≤ 0x7F80_0000 }
 {
     let r = root(f32::from_bits(pattern));
     if r != r {
-        return Answer::NotANumber;
+        return None;
     }
-    Answer::Bits(f32::to_bits(r))
+    Some(f32::to_bits(r))
 }
 
-// Tries one pattern, each kind by its own rule.
+// Tries one pattern, each kind by its own rule: zeros and the infinity are their own roots, and below zero there is no root.
 pub fn tried(pattern: u32) -> Verdict {
     let size = pattern % SIGN;
     if INFINITY < size {
         return Verdict::LeftOut;
     }
     if size == 0 {
-        return Verdict::Own(is_kept(pattern));
+        return Verdict::Own(root_at(pattern) == Some(pattern));
     }
     if SIGN <= pattern {
-        return Verdict::Below(is_refused(pattern));
+        return Verdict::Below(root_at(pattern).is_none());
     }
     if pattern == INFINITY {
-        return Verdict::Own(is_kept(pattern));
+        return Verdict::Own(root_at(pattern) == Some(pattern));
     }
     Verdict::Above(is_nearest(pattern))
-}
-
-// Zeros and the infinity are their own roots.
-fn is_kept(pattern: u32) -> bool
-    requires { pattern % 2 ^ 31 ≤ 0x7F80_0000 }
-{
-    match root_at(pattern) {
-        Answer::Bits(bits) => bits == pattern,
-        Answer::NotANumber => false,
-    }
-}
-
-// Below zero there is no root.
-fn is_refused(pattern: u32) -> bool
-    requires { pattern % 2 ^ 31 ≤ 0x7F80_0000 }
-{
-    match root_at(pattern) {
-        Answer::Bits(_) => false,
-        Answer::NotANumber => true,
-    }
 }
 
 // A number above 0 and below the infinity has a root that is normal and finite, and no binary32 number lies nearer to the exact one.
 fn is_nearest(pattern: u32) -> bool
     requires { (0 < pattern) × (pattern < 0x7F80_0000) }
 {
-    let Answer::Bits(bits) = root_at(pattern) else {
+    let Some(bits) = root_at(pattern) else {
         return false;
     };
-    if bits < FIELD {
-        return false;
-    }
-    if INFINITY <= bits {
-        return false;
-    }
-    judge(pattern, bits)
+    FIELD <= bits && bits < INFINITY && judge(pattern, bits)
 }
 
 // Whether the exact root of the number of pattern x lies strictly between the midpoints of pattern r's number and its neighbours.

@@ -1,23 +1,21 @@
 // The published roots, replayed: every row but a remark is counted, and agrees where the root has the very bits that it gives.
 ghost use Rattle.roots.specs.Counts as Counts;
 
-use crate::judge::{Answer, INFINITY, SIGN, root_at};
+use crate::judge::{INFINITY, SIGN, root_at};
 use crate::row::{Row, line_end, row_of};
 
 // The rows, how many of them agree, and where the first line starts that does not.
-#[derive(Clone, Copy)]
+#[derive(Clone, Copy, Default)]
 pub struct Tally {
     pub rows: u64,
     pub agree: u64,
     pub first: usize,
 }
 
+// By the places of the lines, since one of them is answered: the library's `split` doesn't give them, and gives one more part, which is
+// empty, behind the last line end.
 pub fn replay(text: &[u8]) -> Tally {
-    let mut done = Tally {
-        rows: 0,
-        agree: 0,
-        first: 0,
-    };
+    let mut done = Tally::default();
     let mut at: usize = 0;
     while at < text.len() {
         let end = line_end(text, at);
@@ -57,11 +55,5 @@ fn counted(p: Tally, agrees: bool, at: usize) -> Tally
 
 // Whether the root of the number of the pattern argument has the expected pattern.
 fn agrees(argument: u32, expected: u32) -> bool {
-    if INFINITY < argument % SIGN {
-        return false;
-    }
-    match root_at(argument) {
-        Answer::Bits(bits) => bits == expected,
-        Answer::NotANumber => false,
-    }
+    argument % SIGN <= INFINITY && root_at(argument) == Some(expected)
 }

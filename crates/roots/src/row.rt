@@ -1,18 +1,13 @@
 // A line of the file of published roots: a remark, which `#` starts, or an argument and its root, each eight hexadecimal digits.
-ghost use Rattle.std.specs.Prelude.{◌+◌, ◌≤◌, length};
+ghost use Rattle.std.specs.Prelude.{◌+◌, ◌<◌, ◌≤◌, length, IfSome};
 
 const LINE_END: u8 = 10;
 
+// An `Option` of a `Result` would say the same: three names say it more plainly.
 #[derive(Clone, Copy)]
 pub enum Row {
     Remark,
     Pair(u32, u32),
-    Broken,
-}
-
-#[derive(Clone, Copy)]
-enum Word {
-    Bits(u32),
     Broken,
 }
 
@@ -21,61 +16,51 @@ pub fn line_end(text: &[u8], from: usize) -> usize
     requires { from ≤ length text.now }
     ensures { (from ≤ result) × (result ≤ length text.now) }
 {
-    let mut at = from;
-    while at < text.len() {
-        if text[at] == LINE_END {
-            return at;
-        }
-        at += 1;
+    match text[from..].iter().position(|b| *b == LINE_END) {
+        Some(n) => from + n,
+        None => text.len(),
     }
-    at
 }
 
 // What a line without its end says.
 pub fn row_of(line: &[u8]) -> Row {
-    if line.len() == 0 {
-        return Row::Broken;
-    }
-    if line[0] == b'#' {
+    if line.starts_with(b"#") {
         return Row::Remark;
     }
-    if line.len() != 17 {
-        return Row::Broken;
+    match pair_of(line) {
+        Some((argument, root)) => Row::Pair(argument, root),
+        None => Row::Broken,
     }
-    if line[8] != b' ' {
-        return Row::Broken;
-    }
-    let Word::Bits(argument) = word_at(line, 0) else {
-        return Row::Broken;
-    };
-    let Word::Bits(root) = word_at(line, 9) else {
-        return Row::Broken;
-    };
-    Row::Pair(argument, root)
 }
 
-// The number that eight hexadecimal digits from `from` on stand for.
-fn word_at(text: &[u8], from: usize) -> Word
-    requires { from + 8 ≤ length text.now }
+fn pair_of(line: &[u8]) -> Option<(u32, u32)> {
+    if line.len() != 17 || line[8] != b' ' {
+        return None;
+    }
+    let argument = word_of(&line[..8])?;
+    let root = word_of(&line[9..])?;
+    Some((argument, root))
+}
+
+// The number that up to eight hexadecimal digits stand for. The library's `from_str_radix` would take a sign and small letters too.
+fn word_of(glyphs: &[u8]) -> Option<u32>
+    requires { length glyphs.now ≤ 8 }
 {
-    let mut bits: u32 = 0;
-    let mut i: usize = 0;
-    while i < 8 {
-        let value = digit(text[from + i]);
-        if 16 <= value {
-            return Word::Broken;
-        }
+    let mut bits = 0;
+    for glyph in glyphs {
+        let value = digit(*glyph)?;
         bits = 16 * bits + value;
-        i += 1;
     }
-    Word::Bits(bits)
+    Some(bits)
 }
 
-// The value of a hexadecimal digit, or 16 for any other byte.
-fn digit(glyph: u8) -> u32 {
+// The value of a hexadecimal digit. The library's `to_digit` would take small letters too.
+fn digit(glyph: u8) -> Option<u32>
+    ensures { IfSome result (λ d. d < 16) }
+{
     match glyph {
-        b'0'..=b'9' => (glyph - b'0') as u32,
-        b'A'..=b'F' => (glyph - b'A' + 10) as u32,
-        _ => 16,
+        b'0'..=b'9' => Some((glyph - b'0') as u32),
+        b'A'..=b'F' => Some((glyph - b'A' + 10) as u32),
+        _ => None,
     }
 }

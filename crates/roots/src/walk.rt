@@ -10,7 +10,7 @@ const STEP: u32 = 0x9E37_79B1;
 const STEPS: u32 = 100_000;
 
 // The patterns visited, by kind; how many roots were wrong, and the first pattern whose root was.
-#[derive(Clone, Copy)]
+#[derive(Clone, Copy, Default)]
 pub struct Walk {
     pub above: u64,
     pub below: u64,
@@ -23,14 +23,7 @@ pub struct Walk {
 pub fn start() -> Walk
     ensures { (Counts.visits result ≡ 0) × (result.wrong ≡ 0) }
 {
-    Walk {
-        above: 0,
-        below: 0,
-        own: 0,
-        nans: 0,
-        wrong: 0,
-        first: 0,
-    }
+    Walk::default()
 }
 
 // How many patterns were visited.
@@ -47,12 +40,8 @@ pub fn spread(w: Walk) -> Walk
     ensures { Counts.Visited w result 100_000 }
 {
     let mut done = w;
-    let mut pattern: u32 = 0;
-    let mut i: u32 = 0;
-    while i < STEPS {
-        done = visit(done, pattern);
-        pattern = std::num::wrapping_add_u32(pattern, STEP);
-        i += 1;
+    for i in 0..STEPS {
+        done = visit(done, i.wrapping_mul(STEP));
     }
     done
 }
@@ -63,11 +52,9 @@ pub fn at_field_ends(w: Walk) -> Walk
     ensures { Counts.Visited w result 1024 }
 {
     let mut done = w;
-    let mut field: u32 = 0;
-    while field < 512 {
+    for field in 0..512 {
         done = visit(done, field * FIELD);
         done = visit(done, field * FIELD + (FIELD - 1));
-        field += 1;
     }
     done
 }

@@ -1,24 +1,28 @@
 -- The loop of a run over two benches: even passes go from the first to the second, odd ones back.
 -- Assumes nothing.
 use mathlib.Core.Path.{◌≡◌, refl, sym, ◌∙◌, ap, subst}
-use mathlib.Core.Bool.{Bool, cond}
+use mathlib.Core.Bool.{Bool, true, false, cond}
 use mathlib.Core.Logic.{◌⊎◌, inl, inr, ⊎_elim}
 use mathlib.Core.List.{List}
-use Prim.Native.Nat.{ℕ, zero, suc, ◌+◌, ◌-◌, ◌%◌, ◌≤◌, ◌<◌}
+use Prim.Native.Nat.{ℕ, zero, suc, ◌+◌, ◌-◌, ◌%◌, ◌<◌, ◌≤◌}
 use native.Mathlib.Omega.{arith}
 use lib.Dec.{eqb}
-use lib.ListN.{length}
+use Rattle.std.specs.Prelude.{Result, Ok, Err}
 use Rattle.geom.specs.declared.answer.Sizes.{Sizes}
 use Rattle.geom.specs.declared.answer.Refined.{Refined}
+use Rattle.geom.specs.declared.bench.BenchMut.{BenchMut}
+use Rattle.geom.specs.declared.bench.Work.{Work}
 use Rattle.geom.specs.Answers.{accepted, refused, told}
 use Rattle.geom.specs.Book.{Kind}
 use Rattle.geom.specs.Form.{Form}
-use Rattle.geom.specs.Memory.{BenchIn, cells}
+use Rattle.geom.specs.Floats.{binary32}
+use Rattle.geom.specs.Lent.{words_on, Same, SameWork}
+use Rattle.geom.specs.Memory.{BenchIn, Bench, AsLong, cells}
 use Rattle.geom.specs.Refusals.{side, StandsFor, LastSteps}
 use Rattle.geom.specs.Refinement.{Lent, RunIn, pass_over, run_from}
 use Rattle.geom.proofs.Lists.{same_number}
-use Rattle.geom.proofs.Equal.{Same}
-use Rattle.lists.specs.declared.Stage.TheVariants.{Whole, Full}
+use Rattle.book.specs.declared.Full.{Full}
+use Rattle.lists.specs.declared.Stage.{Stage}
 use Rattle.pass.specs.Benches.{state_of, lent_of, Held, Lends, Passed}
 use Rattle.pass.proofs.Fitting.{false_unless}
 use Rattle.pass.proofs.Whole.{cells_same}
@@ -42,13 +46,32 @@ odd_on n h = ⊎_elim (λ (e : n % 2 ≡ 0). absurd (h e)) (λ (l : 0 < n % 2). 
     zero_or_more zero = inl refl
     zero_or_more (suc m) = inr (omega arith)
 
--- slices that keep their lengths lend as many cells
-pub same_cells : {F : Form} (kind : Kind) {x y : BenchIn F} → Same x y → cells kind x ≡ cells kind y
-same_cells kind {x} {y} s =
-    cells_same kind x y s.positions s.marks s.points s.lines s.areas s.volumes s.curves s.curve_vertices
+-- the other side of a pass
+pub other_even : {A : Type 0} (n : ℕ) (x y : A) → n % 2 ≡ 0 → side (n + 1) x y ≡ y
+other_even n x y e = side_odd (n + 1) x y (λ z. omega arith)
 
-pub same_here : {F : Form} (x : BenchIn F) → Same x x
-same_here x =
+pub other_odd : {A : Type 0} (n : ℕ) (x y : A) → (n % 2 ≡ 0 → ⊥) → side (n + 1) x y ≡ x
+other_odd n x y h = side_even (n + 1) x y (odd_on n h)
+
+side_again : {A : Type 0} (n : ℕ) (x y : A) → side (n + 1 + 1) x y ≡ side n x y
+unfolding side
+side_again n x y =
+    let e : (n + 1 + 1) % 2 ≡ n % 2 = omega arith in
+    ap (λ (m : ℕ). cond (eqb m 0) x y) e
+
+-- slices that keep their lengths lend as many cells, on either side
+same_cells : {F : Form} (kind : Kind) (n : ℕ) {x y x' y' : BenchIn F} → AsLong x' x → AsLong y' y → cells kind (side n x' y') ≡ cells kind (side n x y)
+unfolding side
+same_cells {F} kind n {x} {y} {x'} {y'} s t = go (eqb (n % 2) 0)
+  where
+    go : (b : Bool) → cells kind (cond b x' y') ≡ cells kind (cond b x y)
+    go true = cells_same kind s
+    go false = cells_same kind t
+
+-- ---- the slices
+
+long_here : {F : Form} (x : BenchIn F) → AsLong x x
+long_here x =
     record {
       positions = refl;
       marks = refl;
@@ -60,8 +83,8 @@ same_here x =
       curve_vertices = refl;
     }
 
-pub same_on : {F : Form} {x y z : BenchIn F} → Same x y → Same y z → Same x z
-same_on s t =
+long_on : {F : Form} {x y z : BenchIn F} → AsLong x y → AsLong y z → AsLong x z
+long_on s t =
     record {
       positions = s.positions ∙ t.positions;
       marks = s.marks ∙ t.marks;
@@ -73,136 +96,143 @@ same_on s t =
       curve_vertices = s.curve_vertices ∙ t.curve_vertices;
     }
 
+same_here : (x : BenchMut) → Same x x
+same_here x =
+    record {
+      positions = refl;
+      marks = refl;
+      points = refl;
+      lines = refl;
+      areas = refl;
+      volumes = refl;
+      curves = refl;
+      steps = refl;
+      long = long_here (words_on x);
+    }
+
+same_on : {x y z : BenchMut} → Same x y → Same y z → Same x z
+same_on s t =
+    record {
+      positions = s.positions ∙ t.positions;
+      marks = s.marks ∙ t.marks;
+      points = s.points ∙ t.points;
+      lines = s.lines ∙ t.lines;
+      areas = s.areas ∙ t.areas;
+      volumes = s.volumes ∙ t.volumes;
+      curves = s.curves ∙ t.curves;
+      steps = s.steps ∙ t.steps;
+      long = long_on s.long t.long;
+    }
+
+work_here : (w : Work) → SameWork w w
+work_here w = record { book = refl; sums = refl; tallies = refl; book_long = refl; sums_long = refl; tallies_long = refl }
+
+work_on : {v w x : Work} → SameWork v w → SameWork w x → SameWork v x
+work_on s t =
+    record {
+      book = s.book ∙ t.book;
+      sums = s.sums ∙ t.sums;
+      tallies = s.tallies ∙ t.tallies;
+      book_long = s.book_long ∙ t.book_long;
+      sums_long = s.sums_long ∙ t.sums_long;
+      tallies_long = s.tallies_long ∙ t.tallies_long;
+    }
+
+-- ---- a turn
+
+-- a pass from one side to the other, by what the sides are
+pub turned :
+    {F : Form} {kind : Kind} {base : ℕ} (time : Bool) (s : Sizes) (made : ℕ) (book : List ℕ) {book' : List ℕ} {r : Result Stage Full} {here here' there there' : BenchIn F}
+    → here ≡ here' → there ≡ there'
+    → Passed kind base (lent_of kind here book) (pass_over kind time base (state_of kind s here book made)) there book' r
+    → Passed kind base (lent_of kind here' book) (pass_over kind time base (state_of kind s here' book made)) there' book' r
+turned {F} {kind} {base} time s made book {book'} {r} {here} {here'} {there} {there'} p q f =
+    subst (λ (x : BenchIn F). Passed kind base (lent_of kind x book) (pass_over kind time base (state_of kind s x book made)) there' book' r) p
+    (subst (λ (y : BenchIn F). Passed kind base (lent_of kind here book) (pass_over kind time base (state_of kind s here book made)) y book' r) q f)
+
 -- ---- the loop
 
-module _ {F : Form} (kind : Kind) (time : Bool) (base room : ℕ) (c : Sizes) (depth : ℕ) (lent : Lent) (run : RunIn F) (first₀ : BenchIn F) where
-  -- after n passes: the bench of the last whole pass stands for the state, and the slices have kept their lengths
-  pub record Going (second₀ : BenchIn F) (book₀ : List ℕ) (sums₀ : List F.Cell) (tallies₀ : List ℕ) (first second : BenchIn F) (book : List ℕ) (sums : List F.Cell) (tallies : List ℕ) (n : ℕ) (s : Sizes) (made : ℕ) : Type 0 where
-    pub at : At kind time base room c depth lent run first₀ (side n first second) (side (n + 1) first second) book sums tallies n s made
-    pub one : Same first first₀
-    pub two : Same second second₀
-    pub entries : length book ≡ length book₀
-    pub sum : length sums ≡ length sums₀
-    pub tally : length tallies ≡ length tallies₀
+module _ (kind : Kind) (time : Bool) (base room : ℕ) (c : Sizes) (depth : ℕ) (s₀ : Sizes) (one two : BenchMut) (with : Work) where
+  abbrev first₀ : Bench
+  first₀ = words_on one
 
-  module _ (n : ℕ) {first second : BenchIn F} {book : List ℕ} {sums : List F.Cell} {tallies : List ℕ} {s : Sizes} {made : ℕ} where
-    -- the direction of an even pass, and of an odd one
-    pub forth : n % 2 ≡ 0 → At kind time base room c depth lent run first₀ (side n first second) (side (n + 1) first second) book sums tallies n s made
-        → At kind time base room c depth lent run first₀ first second book sums tallies n s made
-    forth e g =
-        let o : (n + 1) % 2 ≡ 0 → ⊥ = λ z. omega arith in
-        subst (λ (y : BenchIn F). At kind time base room c depth lent run first₀ first y book sums tallies n s made) (side_odd (n + 1) first second o)
-        (subst (λ (x : BenchIn F). At kind time base room c depth lent run first₀ x (side (n + 1) first second) book sums tallies n s made) (side_even n first second e) g)
+  abbrev lent₀ : Lent
+  lent₀ = lent_of kind first₀ with.book.now
 
-    pub back : (n % 2 ≡ 0 → ⊥) → At kind time base room c depth lent run first₀ (side n first second) (side (n + 1) first second) book sums tallies n s made
-        → At kind time base room c depth lent run first₀ second first book sums tallies n s made
-    back e g =
-        let o : (n + 1) % 2 ≡ 0 = odd_on n e in
-        subst (λ (y : BenchIn F). At kind time base room c depth lent run first₀ second y book sums tallies n s made) (side_even (n + 1) first second o)
-        (subst (λ (x : BenchIn F). At kind time base room c depth lent run first₀ x (side (n + 1) first second) book sums tallies n s made) (side_odd n first second e) g)
+  abbrev run₀ : RunIn binary32
+  run₀ = run_of kind time lent₀ base depth (state_of kind s₀ first₀ with.book.now 0)
 
-    -- and after it
-    pub came_forth : n % 2 ≡ 0 → At kind time base room c depth lent run first₀ second first book sums tallies (n + 1) s made
-        → At kind time base room c depth lent run first₀ (side (n + 1) first second) (side (n + 1 + 1) first second) book sums tallies (n + 1) s made
-    came_forth e g =
-        let o : (n + 1) % 2 ≡ 0 → ⊥ = λ z. omega arith in
-        let p : (n + 1 + 1) % 2 ≡ 0 = omega arith in
-        subst (λ (y : BenchIn F). At kind time base room c depth lent run first₀ (side (n + 1) first second) y book sums tallies (n + 1) s made) (sym (side_even (n + 1 + 1) first second p))
-        (subst (λ (x : BenchIn F). At kind time base room c depth lent run first₀ x first book sums tallies (n + 1) s made) (sym (side_odd (n + 1) first second o)) g)
+  -- after n passes: the slices are the ones that were handed in, and the bench of the last whole pass stands for the state
+  pub record Going (first second : BenchMut) (work : Work) (n : ℕ) (s : Sizes) (made : ℕ) : Type 0 where
+    pub same : Same first one
+    pub same_2 : Same second two
+    pub same_3 : SameWork work with
+    pub at :
+        At kind time base room c depth lent₀ run₀ first₀ (side n (words_on first) (words_on second)) (side (n + 1) (words_on first) (words_on second)) work.book.now work.sums.now work.tallies.now n s made
 
-    pub came_back : (n % 2 ≡ 0 → ⊥) → At kind time base room c depth lent run first₀ first second book sums tallies (n + 1) s made
-        → At kind time base room c depth lent run first₀ (side (n + 1) first second) (side (n + 1 + 1) first second) book sums tallies (n + 1) s made
-    came_back e g =
-        let o : (n + 1) % 2 ≡ 0 = odd_on n e in
-        let p : (n + 1 + 1) % 2 ≡ 0 → ⊥ = λ z. omega arith in
-        subst (λ (y : BenchIn F). At kind time base room c depth lent run first₀ (side (n + 1) first second) y book sums tallies (n + 1) s made) (sym (side_odd (n + 1 + 1) first second p))
-        (subst (λ (x : BenchIn F). At kind time base room c depth lent run first₀ x second book sums tallies (n + 1) s made) (sym (side_even (n + 1) first second o)) g)
+  -- before the first pass
+  pub going_start :
+      Held kind base s₀ first₀ with.book.now 0 → Lends kind base room c first₀ (words_on two) with.book.now with.sums.now with.tallies.now
+      → Going one two with 0 s₀ 0
+  unfolding side
+  going_start h l =
+      let z : depth - 0 ≡ depth = omega arith in
+      record {
+        same = same_here one;
+        same_2 = same_here two;
+        same_3 = work_here with;
+        at =
+            record {
+              within = omega arith;
+              held = h;
+              lends = l;
+              lent_is = refl;
+              on = ap (λ (d : ℕ). run_from kind time lent₀ base d 0 (state_of kind s₀ first₀ with.book.now 0)) z;
+              steps = refl;
+            };
+      }
 
   -- the answer, from the side on which the run ended
-  pub ran : {r : Refined} (n : ℕ) (first second : BenchIn F) → Ends kind time base room c depth lent run first₀ r (side n first second) n → Ran kind run r first₀ first second
+  ran : {r : Refined} (n : ℕ) (first second : Bench) → Ends kind time base room c depth lent₀ run₀ first₀ r (side n first second) n → Ran kind run₀ r first₀ first second
   ran n first second e =
       record {
         answer = e.answer;
-        stands = subst (λ (k : ℕ). StandsFor kind (side k first second) run.left.mesh) (sym e.passes) e.stands;
-        steps = subst (λ (k : ℕ). LastSteps k first₀ (side k first second) run.left.mesh) (sym e.passes) e.steps;
+        stands = subst (λ (k : ℕ). StandsFor kind (side k first second) run₀.left.mesh) (sym e.passes) e.stands;
+        steps = subst (λ (k : ℕ). LastSteps k first₀ (side k first second) run₀.left.mesh) (sym e.passes) e.steps;
       }
 
--- before the first pass
-pub going_start :
-    {F : Form} (kind : Kind) (time : Bool) (base room : ℕ) (c : Sizes) (depth : ℕ) (first second : BenchIn F) (book : List ℕ) (sums : List F.Cell) (tallies : List ℕ) (s : Sizes)
-    → Held kind base s first book 0 → Lends kind base room c first second book sums tallies
-    → Going kind time base room c depth (lent_of kind first book) (run_of kind time (lent_of kind first book) base depth (state_of kind s first book 0)) first second book sums tallies first second book sums tallies 0 s 0
-unfolding side
-going_start kind time base room c depth first second book sums tallies s h l =
-    let z : depth - 0 ≡ depth = omega arith in
-    record {
-      at =
+  module _ {first second : BenchMut} {work : Work} {n : ℕ} {s : Sizes} {made : ℕ} (g : Going first second work n s made) where
+    abbrev here : Bench
+    here = side n (words_on first) (words_on second)
+
+    -- at the depth
+    pub done : depth ≤ n → (r : Refined) → told r ≡ record { passes = n; sizes = s; verdict = accepted } → Ran kind run₀ r first₀ (words_on first) (words_on second)
+    done k r t = ran n (words_on first) (words_on second) (ends_done kind time base room c depth lent₀ run₀ first₀ g.at k r t)
+
+    module _ (first' second' : BenchMut) (work' : Work) (k : n < depth) (same : Same first' first) (same_2 : Same second' second) (same_3 : SameWork work' work) (stays : side n (words_on first') (words_on second') ≡ here) where
+      abbrev there' : Bench
+      there' = side (n + 1) (words_on first') (words_on second')
+
+      -- where the pass did not fit
+      pub full :
+          {f : Full} (r : Refined) → Passed kind base (lent_of kind here work.book.now) (pass_over kind time base (state_of kind s here work.book.now made)) there' work'.book.now (Err f)
+          → told r ≡ record { passes = n; sizes = s; verdict = refused 10 } → Ran kind run₀ r first₀ (words_on first') (words_on second')
+      full r f t =
+          ran n (words_on first') (words_on second')
+          (subst (λ (b : Bench). Ends kind time base room c depth lent₀ run₀ first₀ r b n) (sym stays) (ends_full kind time base room c depth lent₀ run₀ first₀ g.at k f r t))
+
+      -- where it did
+      pub goes :
+          {t : Stage} → Passed kind base (lent_of kind here work.book.now) (pass_over kind time base (state_of kind s here work.book.now made)) there' work'.book.now (Ok t)
+          → Going first' second' work' (n + 1) t.sizes t.made
+      goes {t} f =
+          let cells_are = same_cells kind (n + 1) same.long same_2.long in
+          let next = goes_on kind time base room c depth lent₀ run₀ first₀ g.at k f cells_are same_3.book_long same_3.sums_long same_3.tallies_long in
           record {
-            within = omega arith;
-            held = h;
-            lends = l;
-            lent_is = refl;
-            on = ap (λ (d : ℕ). run_from kind time (lent_of kind first book) base d 0 (state_of kind s first book 0)) z;
-            steps = refl;
-          };
-      one = same_here first;
-      two = same_here second;
-      entries = refl;
-      sum = refl;
-      tally = refl;
-    }
-
--- ---- a turn in each direction
-
-module _ {F : Form} {kind : Kind} {time : Bool} {base room : ℕ} {c : Sizes} {depth : ℕ} {lent : Lent} {run : RunIn F} {first₀ second₀ : BenchIn F} {book₀ : List ℕ} {sums₀ : List F.Cell} {tallies₀ : List ℕ} {first second : BenchIn F} {book : List ℕ} {sums : List F.Cell} {tallies : List ℕ} {n : ℕ} {s : Sizes} {made : ℕ} (g : Going kind time base room c depth lent run first₀ second₀ book₀ sums₀ tallies₀ first second book sums tallies n s made) where
-  pub at_forth : n % 2 ≡ 0 → At kind time base room c depth lent run first₀ first second book sums tallies n s made
-  at_forth e = forth kind time base room c depth lent run first₀ n e g.at
-
-  pub at_back : (n % 2 ≡ 0 → ⊥) → At kind time base room c depth lent run first₀ second first book sums tallies n s made
-  at_back e = back kind time base room c depth lent run first₀ n e g.at
-
-  pub full_forth :
-      {book' : List ℕ} (second' : BenchIn F) (r : Refined) → n % 2 ≡ 0 → n < depth
-      → Passed kind base (lent_of kind first book) (pass_over kind time base (state_of kind s first book made)) second' book' Full
-      → told r ≡ record { passes = n; sizes = s; verdict = refused 10 } → Ran kind run r first₀ first second'
-  full_forth second' r e k f t =
-      let x = ends_full kind time base room c depth lent run first₀ (at_forth e) k f r t in
-      ran kind time base room c depth lent run first₀ n first second' (subst (λ (b : BenchIn F). Ends kind time base room c depth lent run first₀ r b n) (sym (side_even n first second' e)) x)
-
-  pub full_back :
-      {book' : List ℕ} (first' : BenchIn F) (r : Refined) → (n % 2 ≡ 0 → ⊥) → n < depth
-      → Passed kind base (lent_of kind second book) (pass_over kind time base (state_of kind s second book made)) first' book' Full
-      → told r ≡ record { passes = n; sizes = s; verdict = refused 10 } → Ran kind run r first₀ first' second
-  full_back first' r e k f t =
-      let x = ends_full kind time base room c depth lent run first₀ (at_back e) k f r t in
-      ran kind time base room c depth lent run first₀ n first' second (subst (λ (b : BenchIn F). Ends kind time base room c depth lent run first₀ r b n) (sym (side_odd n first' second e)) x)
-
-  pub done : depth ≤ n → (r : Refined) → told r ≡ record { passes = n; sizes = s; verdict = accepted } → Ran kind run r first₀ first second
-  done k r t = ran kind time base room c depth lent run first₀ n first second (ends_done kind time base room c depth lent run first₀ g.at k r t)
-
-  module _ {book' : List ℕ} {sums' : List F.Cell} {tallies' : List ℕ} {t : Sizes} {e : ℕ} (k : n < depth) (q : length book' ≡ length book) (r : length sums' ≡ length sums) (u : length tallies' ≡ length tallies) where
-    pub go_forth :
-        {second' : BenchIn F} → n % 2 ≡ 0 → Passed kind base (lent_of kind first book) (pass_over kind time base (state_of kind s first book made)) second' book' (Whole t e)
-        → Same second' second → Going kind time base room c depth lent run first₀ second₀ book₀ sums₀ tallies₀ first second' book' sums' tallies' (n + 1) t e
-    go_forth z o w =
-        record {
-          at = came_forth kind time base room c depth lent run first₀ n z (goes_on kind time base room c depth lent run first₀ (at_forth z) k o (same_cells kind w) q r u);
-          one = g.one;
-          two = same_on w g.two;
-          entries = q ∙ g.entries;
-          sum = r ∙ g.sum;
-          tally = u ∙ g.tally;
-        }
-
-    pub go_back :
-        {first' : BenchIn F} → (n % 2 ≡ 0 → ⊥) → Passed kind base (lent_of kind second book) (pass_over kind time base (state_of kind s second book made)) first' book' (Whole t e)
-        → Same first' first → Going kind time base room c depth lent run first₀ second₀ book₀ sums₀ tallies₀ first' second book' sums' tallies' (n + 1) t e
-    go_back z o w =
-        record {
-          at = came_back kind time base room c depth lent run first₀ n z (goes_on kind time base room c depth lent run first₀ (at_back z) k o (same_cells kind w) q r u);
-          one = same_on w g.one;
-          two = g.two;
-          entries = q ∙ g.entries;
-          sum = r ∙ g.sum;
-          tally = u ∙ g.tally;
-        }
+            same = same_on same g.same;
+            same_2 = same_on same_2 g.same_2;
+            same_3 = work_on same_3 g.same_3;
+            at =
+                subst (λ (b : Bench). At kind time base room c depth lent₀ run₀ first₀ there' b work'.book.now work'.sums.now work'.tallies.now (n + 1) t.sizes t.made)
+                (sym stays ∙ sym (side_again n (words_on first') (words_on second'))) next;
+          }

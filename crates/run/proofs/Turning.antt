@@ -18,7 +18,9 @@ use Rattle.geom.specs.Refinement.{StateIn, Lent, RunIn, pass_over, fits, run_fro
 use Rattle.geom.proofs.Endings.{whole_fits, stopped_bursts}
 use Rattle.geom.proofs.Stated.{sizes_stated}
 use Rattle.book.specs.Cells as Book
-use Rattle.lists.specs.declared.Stage.TheVariants.{Whole, Full}
+use Rattle.std.specs.Prelude.{Ok, Err}
+use Rattle.book.specs.declared.Full.{Full}
+use Rattle.lists.specs.declared.Stage.{Stage}
 use Rattle.pass.specs.Benches.{state_of, lent_of, room_of, capped, Held, Lends, Onward, Passed}
 use Rattle.pass.proofs.Ready.{held_sum}
 
@@ -117,15 +119,17 @@ module _ {F : Form} (kind : Kind) (time : Bool) (base room : ℕ) (c : Sizes) (d
         ∙ g.on
 
     pub ends_full :
-        {there' : BenchIn F} {book' : List ℕ} → n < depth → Passed kind base (lent_of kind here book) next there' book' Full → (r : Refined)
+        {there' : BenchIn F} {book' : List ℕ} {full : Full} → n < depth → Passed kind base (lent_of kind here book) next there' book' (Err full) → (r : Refined)
         → told r ≡ record { passes = n; sizes = s; verdict = refused 10 } → Ends r here n
     ends_full k f r e = ends (refused 10) r e (step k false (stopped_bursts (fits (lent_of kind here book) next) _ f.answer))
 
     pub goes_on :
-        {there' : BenchIn F} {book' : List ℕ} {sums' : List F.Cell} {tallies' : List ℕ} {t : Sizes} {e : ℕ} → n < depth
-        → Passed kind base (lent_of kind here book) next there' book' (Whole t e) → cells kind there' ≡ cells kind there → length book' ≡ length book
-        → length sums' ≡ length sums → length tallies' ≡ length tallies → At there' here book' sums' tallies' (n + 1) t e
-    goes_on {there'} {book'} {sums'} {tallies'} {t} {e} k f p q r u =
+        {there' : BenchIn F} {book' : List ℕ} {sums' : List F.Cell} {tallies' : List ℕ} {stage : Stage} → n < depth
+        → Passed kind base (lent_of kind here book) next there' book' (Ok stage) → cells kind there' ≡ cells kind there → length book' ≡ length book
+        → length sums' ≡ length sums → length tallies' ≡ length tallies → At there' here book' sums' tallies' (n + 1) stage.sizes stage.made
+    goes_on {there'} {book'} {sums'} {tallies'} {stage} k f p q r u =
+        let t = stage.sizes in
+        let e = stage.made in
         let o : Onward kind base next there' book' t e = f.onward in
         let l = lends_turned (lends_kept g.lends p q r u) in
         record {

@@ -1,14 +1,15 @@
-// Document 01, section 3: triangles and tetrahedra. Places count the corners first, then the midpoints in the order in which they are made.
+// Triangles and tetrahedra, cut at the midpoints of their edges: into four and into eight. Places count the corners first, then the midpoints in the order
+// in which they are made.
 #![tactic(auto)]
 
 ghost use Rattle.std.specs.Prelude.{◌*◌, ◌≤◌, length, map};
 ghost use Rattle.geom.specs.Book.{each};
 ghost use Rattle.geom.specs.Simplices.{triangle, tetrahedron};
 ghost use Rattle.geom.specs.Memory.{first_of, element_row, element_of};
-ghost use Rattle.book.specs.Cells.{pairs_of};
-ghost use Rattle.division.specs.Writing.{Begun, Passed};
+ghost use Rattle.book.specs.Answers.{pairs_in, Kept};
+ghost use Rattle.division.specs.Writing.{Begins, Passed};
 
-use division::Written;
+use book::{Book, Full};
 use division::elements::divide_all;
 use geom::kind::Kind;
 
@@ -46,14 +47,12 @@ pub fn triangles(
     count: usize,
     new: &mut [u32],
     cells: usize,
-    book: &mut [u32],
-    made: usize,
-    room: usize,
-    base: usize,
-) -> Written
+    book: &mut Book,
+) -> Result<usize, Full>
     requires count_in_bounds { 4 * count ≤ length old.now }
-    requires begun { Begun 3 base room cells 0 made new.old book.old }
-    ensures { Passed base room cells (each (triangle base) (pairs_of book.old made) (map element_of (first_of (element_row 3 old.now) count))) new.old new.new book.new result }
+    requires begun { Begins 3 cells 0 new.old book.old }
+    ensures kept { Kept book.old book.new }
+    ensures passed { Passed cells (each (triangle book.old.base) (pairs_in book.old) (map element_of (first_of (element_row 3 old.now) count))) new.old new.new book.old book.new result }
 {
     divide_all(
         Kind::Simplices,
@@ -67,9 +66,6 @@ pub fn triangles(
         new,
         cells,
         book,
-        made,
-        room,
-        base,
     )
 }
 
@@ -79,14 +75,12 @@ pub fn tetrahedra(
     count: usize,
     new: &mut [u32],
     cells: usize,
-    book: &mut [u32],
-    made: usize,
-    room: usize,
-    base: usize,
-) -> Written
+    book: &mut Book,
+) -> Result<usize, Full>
     requires count_in_bounds { 5 * count ≤ length old.now }
-    requires begun { Begun 4 base room cells 0 made new.old book.old }
-    ensures { Passed base room cells (each (tetrahedron base) (pairs_of book.old made) (map element_of (first_of (element_row 4 old.now) count))) new.old new.new book.new result }
+    requires begun { Begins 4 cells 0 new.old book.old }
+    ensures kept { Kept book.old book.new }
+    ensures passed { Passed cells (each (tetrahedron book.old.base) (pairs_in book.old) (map element_of (first_of (element_row 4 old.now) count))) new.old new.new book.old book.new result }
 {
     divide_all(
         Kind::Simplices,
@@ -100,8 +94,5 @@ pub fn tetrahedra(
         new,
         cells,
         book,
-        made,
-        room,
-        base,
     )
 }

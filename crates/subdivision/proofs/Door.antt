@@ -9,10 +9,10 @@ use lib.Dec.{eqb}
 use lib.ListN.{length}
 use borrow.Author.Tests.{not-false}
 use Rattle.geom.specs.declared.answer.Sizes.{Sizes}
-use Rattle.geom.specs.declared.answer.Ended.{Ended}
-use Rattle.geom.specs.declared.answer.Ended.TheVariants.{Refused}
+use Rattle.std.specs.Prelude.{Result, Err}
+use Rattle.geom.specs.declared.refusal.Refusal.{Refusal}
 use Rattle.geom.specs.declared.answer.Refined.{Refined}
-use Rattle.geom.specs.Answers.{Verdict, accepted, refused, verdict_of, told}
+use Rattle.geom.specs.Answers.{Verdict, accepted, refused, verdict_of, number_of, told}
 use Rattle.geom.specs.Book.{Kind}
 use Rattle.geom.specs.Form.{Form}
 use Rattle.geom.specs.Memory.{cells, first_of, rows_of, mesh_of}
@@ -29,7 +29,7 @@ use Rattle.judge.specs.Counts.{lengths_of, cells_of}
 use Rattle.geom.proofs.Equal.{equal_facts}
 use Rattle.pass.specs.Benches.{state_of, lent_of, capped, Held, Lends}
 use Rattle.run.specs.Runs.{run_of, Ran}
-use Rattle.run.proofs.Going.{same_cells}
+use Rattle.pass.proofs.Whole.{cells_same}
 use Rattle.subdivision.specs.Entry.{Refines}
 use Rattle.subdivision.proofs.Keeping.{refines}
 
@@ -79,7 +79,7 @@ module _ {F : Form} (kind : Kind) (s : Sizes) (d : DeskIn F) (time : ℕ) (e : r
       let h = and_true_right (counts_hold kind s d.first) (benches_hold kind d) nine in
       let both = and_true_left (equal && sums) tallies h in
       record {
-        twin = same_cells kind (equal_facts d.first d.second (and_true_left equal sums both));
+        twin = cells_same kind (equal_facts d.first d.second (and_true_left equal sums both));
         sum = omega (arith, same_number (length d.sums / 4) n (and_true_right equal sums both));
         tally = omega (arith, same_number (length d.tallies / 2) n (and_true_right (equal && sums) tallies h));
         rooms = r ∙ ap (λ (z : Sizes). min (length d.book / WORDS) (min z.vertices LIMIT - s.vertices)) l;
@@ -105,12 +105,12 @@ module _ {F : Form} (kind : Kind) (s : Sizes) (d : DeskIn F) (time : ℕ) (e : r
 -- ---- refused
 
 pub refuses :
-    {F : Form} → Steady F → (kind : Kind) (s : Sizes) (d : DeskIn F) (time depth : ℕ) (r : Refined) {ended : Ended} {k : ℕ} → verdict_of ended ≡ refinement_verdict kind s d time
-    → ended ≡ Refused k → told r ≡ record { passes = 0; sizes = s; verdict = verdict_of ended } → Refines kind s d d depth time (told r)
+    {F : Form} → Steady F → (kind : Kind) (s : Sizes) (d : DeskIn F) (time depth : ℕ) (r : Refined) {ended : Result Unit Refusal} {k : Refusal} → verdict_of ended ≡ refinement_verdict kind s d time
+    → ended ≡ Err k → told r ≡ record { passes = 0; sizes = s; verdict = verdict_of ended } → Refines kind s d d depth time (told r)
 unfolding verdict_of subdivided told_after Leaves
 refuses {F} steady kind s d time depth r {ended} {k} j e t =
-    let v : refused k ≡ refinement_verdict kind s d time = sym (ap verdict_of e) ∙ j in
-    let q : unchanged k ≡ subdivided kind s d depth time =
+    let v : refused (number_of k) ≡ refinement_verdict kind s d time = sym (ap verdict_of e) ∙ j in
+    let q : unchanged (number_of k) ≡ subdivided kind s d depth time =
     ap (λ (v : Verdict). subdivided_by v (run kind (eqb time 1) (lent_by kind d) depth (mesh_of (rows_of kind s d.first)))) v
     in
     refines steady kind s d d depth time

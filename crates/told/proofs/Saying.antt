@@ -1,17 +1,65 @@
 -- The words that say an answer, and that they say it. Assumes nothing.
-use mathlib.Core.Path.{◌≡◌, sym, ◌∙◌, ap}
+use mathlib.Core.Path.{◌≡◌, refl, sym, ◌∙◌, ap}
 use mathlib.Core.List.{List, [], ◌∷◌}
 use Prim.Native.Nat.{ℕ}
+use denote.Enum.Declared.{tag_of}
+use Rattle.std.specs.Prelude.{Result, Ok, Err}
+use Rattle.geom.specs.contracts.kind.Kind.{the_type}
+use Rattle.geom.specs.Kinds.{kind_of}
 use Rattle.geom.specs.declared.answer.Sizes.{Sizes}
-use Rattle.geom.specs.declared.answer.Ended.{Ended}
+use Rattle.geom.specs.declared.refusal.Refusal.{Refusal}
+use Rattle.geom.specs.declared.refusal.Refusal.TheVariants as R
+use Rattle.geom.specs.declared.kind.Kind.{Kind}
+use Rattle.geom.specs.declared.kind.Kind.TheVariants as K
 use Rattle.geom.specs.declared.answer.Refined.{Refined}
 use Rattle.geom.specs.declared.answer.Answer.{Answer}
 use Rattle.geom.specs.declared.answer.Reading.{Reading}
-use Rattle.geom.specs.Answers.{Verdict, verdict_of, told, outcome_of, Judgement, judgement_of, opening_of}
-use Rattle.told.specs.Told.{verdict_by, number_of, Numbered, sizes_from, told_of, outcome_from, refusal_of, kind_word, Worded, opening_from, Says}
+use Rattle.geom.specs.Answers.{Verdict, refused, verdict_of, number_of as refusal_number, told, outcome_of, Judgement, mesh_of_kind, judgement_of, opening_of}
+use Rattle.told.specs.Told.{verdict_by, sizes_from, told_of, outcome_from, refusal_of, kind_word, Worded, opening_from, Says}
 
-pub number_by : {e f : Ended} → e ≡ f → Numbered (verdict_of e) → verdict_by (number_of (verdict_of f)) ≡ verdict_of e
-number_by p n = ap (λ (x : Ended). verdict_by (number_of (verdict_of x))) (sym p) ∙ n
+-- no refusal is numbered 0
+by_number : (r : Refusal) → verdict_by (refusal_number r) ≡ refused (refusal_number r)
+by_number R.Version = refl
+by_number R.Kind = refl
+by_number R.Short = refl
+by_number R.Surplus = refl
+by_number R.Mark = refl
+by_number R.Coordinate = refl
+by_number R.Number = refl
+by_number R.Curve = refl
+by_number R.Count = refl
+by_number R.Room = refl
+
+-- a finished work's number
+pub finished_by : {e : Result Unit Refusal} {u : Unit} → e ≡ Ok u → verdict_by 0 ≡ verdict_of e
+unfolding verdict_of
+finished_by is = ap verdict_of (sym is)
+
+-- a refused work's number
+pub refused_by : {e : Result Unit Refusal} {r : Refusal} (n : ℕ) → n ≡ refusal_number r → e ≡ Err r → verdict_by n ≡ verdict_of e
+unfolding verdict_of
+refused_by {e} {r} n p is = ap verdict_by p ∙ by_number r ∙ ap verdict_of (sym is)
+
+-- a kind and a refusal's number say how reading ended
+worded : (o : Result Kind Refusal) → Worded (judgement_of o)
+unfolding judgement_of
+worded (Ok K.Cubes) = refl
+worded (Ok K.Simplices) = refl
+worded (Err R.Version) = refl
+worded (Err R.Kind) = refl
+worded (Err R.Short) = refl
+worded (Err R.Surplus) = refl
+worded (Err R.Mark) = refl
+worded (Err R.Coordinate) = refl
+worded (Err R.Number) = refl
+worded (Err R.Curve) = refl
+worded (Err R.Count) = refl
+worded (Err R.Room) = refl
+
+-- a kind's number is its word
+pub kind_said : (k : Kind) → tag_of the_type k ≡ kind_word (mesh_of_kind (kind_of k))
+kind_said K.Cubes = refl
+kind_said K.Simplices = refl
 
 -- the seven words of sizes
 unfoldable pub sizes_words : Sizes → List ℕ
@@ -27,8 +75,7 @@ unfolding outcome_of outcome_from sizes_from sizes_words
 outcome_by a n h = ap (λ (v : Verdict). record { sizes = a.sizes; verdict = v }) h
 
 pub opening_by : (r : Reading) (n kind : ℕ) → n ≡ refusal_of (judgement_of r.opened) → kind ≡ kind_word (judgement_of r.opened)
-    → Worded (judgement_of r.opened)
     → Says n (kind ∷ sizes_words r.sizes) (opening_of r)
 unfolding opening_of opening_from sizes_from sizes_words
-opening_by r n kind p q w =
-    record { opening = ap (λ (j : Judgement). record { sizes = r.sizes; judgement = j }) (rw (p, q) w); kind = q }
+opening_by r n kind p q =
+    record { opening = ap (λ (j : Judgement). record { sizes = r.sizes; judgement = j }) (rw (p, q) (worded r.opened)); kind = q }

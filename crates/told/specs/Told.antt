@@ -27,14 +27,6 @@ abbrev pub verdict_by : ℕ → Verdict
 verdict_by zero = accepted
 verdict_by (suc n) = refused (suc n)
 
-abbrev pub number_of : Verdict → ℕ
-number_of accepted = 0
-number_of (refused n) = n
-
--- the number says the whole verdict: no refusal is numbered 0
-abbrev pub Numbered : Verdict → Type 0
-Numbered v = verdict_by (number_of v) ≡ v
-
 -- a refinement's answer: the passes are word 0, the sizes words 1 to 7
 unfoldable pub told_of : ℕ → List ℕ → Told
 told_of number words = record { passes = get_or words 0 0; sizes = sizes_from 1 words; verdict = verdict_by number }

@@ -1,9 +1,11 @@
-// The sizes that a caller states, and the answers of refinement, triangulation and normals.
+// The sizes that a caller states, and the answers of refinement, triangulation and normals. An answer's words are written as one array, as C reads them:
+// put together of an array of sizes and what stands before it they would be no plainer.
 ghost use Rattle.std.specs.Prelude.{◌≡◌};
 ghost use Rattle.geom.specs.Answers.{verdict_of, told, outcome_of};
-ghost use Rattle.told.specs.Told.{sizes_from, Numbered, verdict_by, told_of, outcome_from};
+ghost use Rattle.told.specs.Told.{sizes_from, verdict_by, told_of, outcome_from};
 
-use geom::answer::{Answer, Ended, Refined, Sizes};
+use geom::answer::{Answer, Refined, Sizes};
+use geom::refusal::Refusal;
 
 // The sizes that seven words state.
 pub fn stated(words: &[usize; 7]) -> Sizes
@@ -21,19 +23,17 @@ pub fn stated(words: &[usize; 7]) -> Sizes
 }
 
 // 0 when finished, else the refusal's number.
-pub fn number(ended: Ended) -> u8
-    requires { Numbered (verdict_of ended) }
+pub fn number(ended: Result<(), Refusal>) -> u8
     ensures { verdict_by result ≡ verdict_of ended }
 {
     match ended {
-        Ended::Finished => 0,
-        Ended::Refused(number) => number,
+        Ok(()) => 0,
+        Err(refusal) => u8::from(refusal),
     }
 }
 
 // Writes an answer as eight words, the passes and the sizes, and gives the number: 0 when finished, else the refusal's.
 pub fn tell(r: Refined, answer: &mut [usize; 8]) -> u8
-    requires { Numbered (verdict_of r.ended) }
     ensures { told_of result answer.new ≡ told r }
 {
     let sizes = r.sizes;
@@ -47,13 +47,11 @@ pub fn tell(r: Refined, answer: &mut [usize; 8]) -> u8
         sizes.curves,
         sizes.curve_vertices,
     ];
-    let ended = r.ended;
-    number(ended)
+    number(r.ended)
 }
 
 // Writes an answer as seven words, the sizes, and gives the number: 0 when finished, else the refusal's.
 pub fn tell_sizes(a: Answer, answer: &mut [usize; 7]) -> u8
-    requires { Numbered (verdict_of a.ended) }
     ensures { outcome_from result answer.new ≡ outcome_of a }
 {
     let sizes = a.sizes;
@@ -66,6 +64,5 @@ pub fn tell_sizes(a: Answer, answer: &mut [usize; 7]) -> u8
         sizes.curves,
         sizes.curve_vertices,
     ];
-    let ended = a.ended;
-    number(ended)
+    number(a.ended)
 }

@@ -9,9 +9,10 @@ use lib.Dec.{leb}
 use lib.ListN.{length}
 use borrow.Author.Tests.{not-false, leb-true}
 use Rattle.geom.specs.declared.answer.Sizes.{Sizes}
-use Rattle.geom.specs.declared.answer.Ended.{Ended}
-use Rattle.geom.specs.declared.answer.Ended.TheVariants.{Finished, Refused}
-use Rattle.geom.specs.Answers.{Verdict, accepted, refused, verdict_of, outcome_of, due, first_due}
+use Rattle.std.specs.Prelude.{Result, Ok, Err}
+use Rattle.geom.specs.declared.refusal.Refusal.{Refusal}
+use Rattle.geom.specs.declared.refusal.Refusal.TheVariants.{Room}
+use Rattle.geom.specs.Answers.{Verdict, accepted, refused, verdict_of, outcome_of, due, first_due, number_of}
 use Rattle.geom.specs.Book.{cubes}
 use Rattle.geom.specs.Mesh.{sizes_of}
 use Rattle.geom.specs.Memory.{Bench, rows_of, mesh_of, element_words, over}
@@ -55,12 +56,12 @@ holds_by out t = refl
 module _ (s : Sizes) (b : Bench) (out : Cuts) where
   -- refused by the judge
   pub refuses :
-      {ended : Ended} {n : ℕ} → verdict_of ended ≡ first_due (handed_in true true cubes s b) → ended ≡ Refused n
+      {ended : Result Unit Refusal} {n : Refusal} → verdict_of ended ≡ first_due (handed_in true true cubes s b) → ended ≡ Err n
       → answered (record { sizes = s; ended = ended }) out.areas out.volumes ≡ triangulation s b out
   unfolding outcome_of verdict_of triangulation triangulation_verdict
   refuses {ended} {n} j e =
       let m = triangulated (mesh_of (rows_of cubes s b)) in
-      let v : triangulation_verdict s b out ≡ refused n =
+      let v : triangulation_verdict s b out ≡ refused (number_of n) =
       refused_before (handed_in true true cubes s b) (due 10 (not (cuts_hold out (sizes_of m))) ∷ []) _ (sym j ∙ ap verdict_of e)
       in
       ap (λ (v : Verdict). record { outcome = record { sizes = s; verdict = v }; out = out }) (ap verdict_of e)
@@ -115,7 +116,7 @@ module _ (s : Sizes) (b : Bench) (out : Cuts) where
       -- no cells for what is to be written
       pub full :
           lengths_hold (length out.areas) (length out.volumes) sizes ≡ false
-          → answered (record { sizes = s; ended = Refused 10 }) out.areas out.volumes ≡ triangulation s b out
+          → answered (record { sizes = s; ended = Err Room }) out.areas out.volumes ≡ triangulation s b out
       unfolding outcome_of verdict_of triangulation
       full h = ap (λ (v : Verdict). triangulated_by v s (triangulated (mesh_of (rows_of cubes s b))) out) (sym (verdict_by_lem h))
 
@@ -124,7 +125,7 @@ module _ (s : Sizes) (b : Bench) (out : Cuts) where
           {triangles tetrahedra : List ℕ} → lengths_hold (length out.areas) (length out.volumes) sizes ≡ true
           → triangles ≡ over out.areas (element_words (triangles_of b.areas s.areas))
           → tetrahedra ≡ over out.volumes (element_words (tetrahedra_of b.volumes s.volumes))
-          → answered (record { sizes = sizes; ended = Finished }) triangles tetrahedra ≡ triangulation s b out
+          → answered (record { sizes = sizes; ended = Ok tt }) triangles tetrahedra ≡ triangulation s b out
       unfolding outcome_of verdict_of triangulation triangulated mesh_of rows_of
       done h p q =
           let m = triangulated (mesh_of (rows_of cubes s b)) in

@@ -1,4 +1,4 @@
--- U8 of the words that are left, from the answer: the words of the lent list are those of the tetrahedra that the definition gives.
+-- The ledger of the words that are left, from the answer: the words of the lent list are those of the tetrahedra that the definition gives.
 -- Assumes nothing.
 use mathlib.Core.Path.{◌≡◌, refl, sym, ◌∙◌, ap, subst}
 use mathlib.Core.Bool.{true}

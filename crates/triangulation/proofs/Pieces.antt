@@ -1,14 +1,14 @@
 -- The pieces of an element and of a list, row by row of the table and element by element.
 -- Assumes nothing.
 use mathlib.Core.Path.{◌≡◌, refl, sym, ◌∙◌, ap, ap₂, subst}
-use mathlib.Core.Bool.{Bool, true, false}
+use mathlib.Core.Bool.{Bool, true, false, not}
 use mathlib.Core.List.{List, [], ◌∷◌, ◌++◌, flat_map}
-use Prim.Native.Nat.{ℕ, zero, suc, ◌+◌, ◌*◌, ◌-◌, ◌<◌, ◌≤◌}
+use Prim.Native.Nat.{ℕ, zero, suc, ◌+◌, ◌*◌, ◌-◌, ◌≤◌}
 use native.Mathlib.Omega.{arith}
-use native.Mathlib.Nat.{mul-zero, mul-suc, mul-le-mul_left, le_trans}
+use native.Mathlib.Nat.{mul-zero, mul-le-mul_left, le_trans}
 use native.Mathlib.Numerals.{add-one}
-use lib.ListN.{length, get_or, take, drop, set, length-drop}
-use lib.Seq.{length-take-le}
+use lib.ListN.{length, get_or, take, drop, set}
+use mir.Val.{bool_byte}
 use Rattle.geom.specs.declared.parity.Parity.{Parity}
 use Rattle.geom.specs.Parity.{times}
 use Rattle.geom.specs.Elements.{Element, pick, flat, unless, pieces as pieces_of}
@@ -18,19 +18,9 @@ use Rattle.division.specs.Shapes.{row_of}
 use Rattle.division.specs.Writing.{written, Laid}
 use Rattle.division.proofs.Rows.{written_over}
 use Rattle.division.proofs.Dividing.{length_pick}
-use Rattle.division.proofs.Assembling.{row_room, laid_none, laid_one, pieces_append}
-use Rattle.triangulation.specs.Cutting.{neighbours, cut_from, cut_by, cut_all, Table}
+use Rattle.division.proofs.Assembling.{laid_none, laid_one, pieces_append}
+use Rattle.triangulation.specs.Cutting.{neighbours, cut_from, cut_by, cut_all}
 use Rattle.triangulation.proofs.Turns.{up_to, up_to_flat_map, up_to_few, Counting, Writing, writing_start, writing_done}
-
--- an element lies within its list
-pub element_lies : (corners rows i l : ℕ) → suc corners * rows ≤ l → i < rows → (corners + 1) * i + suc corners ≤ l
-element_lies corners rows i l h less =
-    let e = ap (λ (w : ℕ). w * i) (add-one corners) in
-    omega (arith, h, mul-le-mul_left (suc corners) less, mul-suc (suc corners) i)
-
--- a row of the table lies within it
-pub row_lies : {corners size pieces j : ℕ} {table : List ℕ} → Table corners size pieces table → j < pieces → (size + 1) * j + suc size ≤ length table
-row_lies {size = size} {pieces} {j} {table} t l = element_lies size pieces j (length table) (omega (arith, t.whole)) l
 
 -- ── one piece, or none ──
 
@@ -46,6 +36,11 @@ module _ (size : ℕ) (table : List ℕ) (from : ℕ) (p : Parity) (points : Lis
 
   pub from_one : false ≡ flat (neighbours size) corners → piece ∷ [] ≡ cut_from size table from p points
   from_one e = ap (λ (b : Bool). unless b piece []) e
+
+  -- one for a piece that is kept, and none for one that is left out
+  pub from_counts : (met : Bool) → met ≡ flat (neighbours size) corners → bool_byte (not met) ≡ length (cut_from size table from p points)
+  from_counts true e = ap length (from_none e)
+  from_counts false e = ap length (from_one e)
 
   pub from_few : length (cut_from size table from p points) ≤ 1
   from_few = go (flat (neighbours size) corners)
@@ -63,13 +58,6 @@ module _ (size : ℕ) (table : List ℕ) (from : ℕ) (p : Parity) (points : Lis
       (λ lent. laid_none (omega arith) lent)
 
   -- written: a row more
-  pub place_room :
-      (rows l : ℕ) → false ≡ flat (neighbours size) corners → suc size * (rows + length (cut_from size table from p points)) ≤ l
-      → (size + 1) * rows + suc size ≤ l
-  place_room rows l e h =
-      let n = ap length (from_one e) in
-      row_room size rows (rows + length (cut_from size table from p points)) l (omega arith) h
-
   pub place_one :
       {rows at w : ℕ} {new after : List ℕ} → false ≡ flat (neighbours size) corners
       → suc size * (rows + length (cut_from size table from p points)) ≤ length new → from + suc size ≤ length table → at ≡ (size + 1) * rows
@@ -130,15 +118,7 @@ module _ (corners size : ℕ) (table : List ℕ) (pieces : ℕ) (old : List ℕ)
       let n : (corners + 1) * i + corners - (corners + 1) * i ≡ corners = omega arith in
       ap₂ (λ (n a : ℕ). take n (drop a old)) n (ap (λ (w : ℕ). w * i) (add-one corners))
 
-  -- the table speaks of them
-  pub read_table : {rows : ℕ} (i : ℕ) → Table corners size pieces table → suc corners * rows ≤ length old → i < rows → Table (length (read i)) size pieces table
-  read_table {rows} i t lies l =
-      let at = (corners + 1) * i in
-      let room = element_lies corners rows i (length old) lies l in
-      let long : length (read i) ≡ corners = length-take-le (at + corners - at) (drop at old) (omega (arith, length-drop at old)) ∙ omega arith in
-      subst (λ (n : ℕ). Table n size pieces table) (sym long) t
-
-  -- and its parity
+  -- what they make, with its parity
   pub makes_is : (i : ℕ) {p : Parity} → p ≡ parity_of (get_or old ((corners + 1) * i + corners) 0) → cut_by size table pieces p (read i) ≡ element_makes i
   unfolding element_of element_row
   makes_is i e =

@@ -1,5 +1,5 @@
--- Document 01, section 6, over words: the pieces that a table in memory makes of an element, and of a list of elements.
--- Says nothing of which table is a square's or a cube's: the entry's contract names the document's own.
+-- The pieces that a table in memory makes of an element, and of a list of elements.
+-- Says nothing of which table is a square's or a cube's: the entry's contract names the definition's own (`Triangulation.antt` of `geom`).
 -- Assumes nothing.
 use Rattle.std.specs.Prelude.{◌≡◌, true, ℕ, suc, ◌+◌, ◌*◌, ◌-◌, ◌≤◌, ◌<◌, length, get_or, take, drop}
 use mathlib.Core.List.{List, [], ◌∷◌, map, flat_map}

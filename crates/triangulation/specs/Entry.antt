@@ -1,5 +1,5 @@
--- Document 01, section 6, over words: the triangles and tetrahedra of lists in memory, and what the entry answers, as the record that the definition gives. And
--- document 02, U8, of the tetrahedra that it leaves.
+-- The triangles and tetrahedra of lists in memory, and what the entry answers, as the record that the definition gives. And of the tetrahedra that it leaves, that
+-- their ledger is that of the cubes with each square cut in two.
 -- Says nothing of when a refusal is due, which is the one of `geom`.
 -- Assumes nothing.
 use Rattle.std.specs.Prelude.{◌≡◌, Bool, ◌&&◌, ℕ, ◌/◌, leb}
@@ -45,7 +45,7 @@ cubes_handed s b = (mesh_of (rows_of cubes s b)).lists.volumes
 abbrev pub tetrahedra_left : Triangulated → List Element
 tetrahedra_left t = map element_of (first_of (element_row 4 t.out.volumes) t.outcome.sizes.volumes)
 
--- The answer and every word of the lent lists are the definition's; and where no refusal is due, U8: the ledger of the tetrahedra left, as it is read, is the
+-- The answer and every word of the lent lists are the definition's; and where no refusal is due, the ledger of the tetrahedra left, as it is read, is the
 -- ledger of the cubes handed in with each square replaced by its two triangles, read the same way.
 pub record Triangulates (s : Sizes) (b : Bench) (lent : Cuts) (t : Triangulated) : Type 0 where
   pub answer : t ≡ triangulation s b lent

@@ -10,8 +10,8 @@ use native.Mathlib.Numerals.{add-one}
 use native.Mathlib.Omega.{arith}
 use lib.Dec.{eqb, ltb}
 use lib.ListN.{length, get_or, take, drop, set, length-set, length-take, length-drop}
-use lib.Seq.{sets, get_or-set_same, get_or-set_other}
-use borrow.Author.Tests.{eqb-true, eqb-false, ltb-true, ltb-false, lt-ltb, le-ltb}
+use lib.Seq.{take-suc, get_or-take, get_or-drop, sets, get_or-set_same, get_or-set_other}
+use borrow.Author.Tests.{eqb-true, eqb-false, ltb-true, ltb-false}
 use Rattle.geom.specs.Elements.{Element}
 use Rattle.geom.specs.Form.{Fourfold, Form}
 use Rattle.geom.specs.Memory.{first_of, four_row, vertex_row_in, four_words, element_row, element_of}
@@ -20,9 +20,6 @@ use Rattle.geom.specs.Smoothing.{GatheredIn, nothing, ignored, update, to_corner
 use Rattle.vertices.specs.Cells.{points_in, elements_of, gathered_row_in, Lent, MOST, Corners, Elements}
 use Rattle.geom.proofs.Rows.{get_d_first_of}
 use Rattle.vertices.proofs.Written.{get_d_sets_past, part_on}
-
-pub two_stores : {A : Type 0} (l : List A) (a : ℕ) (x y : A) → set (set l a x) (a + 1) y ≡ sets l a (x ∷ y ∷ [])
-two_stores l a x y = rw (add-one a) refl
 
 -- ---- a row written, and the others
 
@@ -80,11 +77,6 @@ module _ {A Four : Type 0} (q : Fourfold A Four) (l : List A) (v : ℕ) (p : Fou
 
 -- ---- what needs no form
 
--- nothing is lower than the lowest rank
-pub lowest_rank : (t r : ℕ) → r ≤ 1 → (ltb 0 t && ltb t r) ≡ false
-lowest_rank zero r l = refl
-lowest_rank (suc n) r l = rw (lt-ltb 0 (suc n) (omega arith), le-ltb (suc n) r (omega arith)) refl
-
 pub length_part : (words : List ℕ) (start k : ℕ) → start + k ≤ length words → length (take k (drop start words)) ≡ k
 length_part words start k h = simp (length-take, length-drop) (omega arith)
 
@@ -98,6 +90,12 @@ elements_corners words corners n count i e h =
       room = omega (arith, e.room, mul-suc (suc corners) i, mul-le-mul_left (suc corners) h);
       below = e.below i h;
     })
+
+-- an element's corners by themselves
+pub corners_alone : {words : List ℕ} {start n count : ℕ} → Corners words start n count → (k : ℕ) → k < length (take n (drop start words)) → get_or (take n (drop start words)) k 0 < count
+corners_alone {words} {start} {n} {count} c k h =
+    let l : k < n = omega (arith, length_part words start n c.room) in
+    rw (get_or-take n (drop start words) k 0 l ∙ get_or-drop start words k 0) (c.below k l)
 
 pub elements_more : (corners : ℕ) (words : List ℕ) (i : ℕ) → elements_of corners words (i + 1) ≡ elements_of corners words i ++ element_of (element_row corners words i) ∷ []
 unfolding first_of
@@ -131,33 +129,18 @@ module _ (F : Form) where
 
   -- ---- cleared cells
 
-  pub record Clearing (sums₀ : List F.Cell) (tallies₀ : List ℕ) (count : ℕ) (sums : List F.Cell) (tallies : List ℕ) (i : ℕ) : Type 0 where
-    pub within : i ≤ count
-    pub long : length sums ≡ length sums₀
-    pub wide : length tallies ≡ length tallies₀
-    pub cleared : (u : ℕ) → u < i → gathered_row_in F sums tallies u ≡ nothing
-
-  pub clearing_start : (sums : List F.Cell) (tallies : List ℕ) (count : ℕ) → Clearing sums tallies count sums tallies 0
-  clearing_start sums tallies count = record { within = omega arith; long = refl; wide = refl; cleared = λ u h. absurd (omega arith) }
-
-  pub clearing_on : (sums₀ : List F.Cell) (tallies₀ : List ℕ) (count : ℕ) (sums : List F.Cell) (tallies : List ℕ) (i : ℕ) (sums' : List F.Cell) (tallies' : List ℕ) (z : F.Sum)
-      → Clearing sums₀ tallies₀ count sums tallies i → i < count → length sums' ≡ length sums → length tallies' ≡ length tallies → z ≡ F.none
+  pub cleared_on : (sums : List F.Cell) (tallies : List ℕ) (i : ℕ) (sums' : List F.Cell) (tallies' : List ℕ) (z : F.Sum)
+      → ((u : ℕ) → u < i → gathered_row_in F sums tallies u ≡ nothing) → z ≡ F.none
       → ((u : ℕ) → gathered_row_in F sums' tallies' u ≡ cond (eqb i u) (record { sum = z; count = 0; touch = 0 }) (gathered_row_in F sums tallies u))
-      → Clearing sums₀ tallies₀ count sums' tallies' (i + 1)
-  clearing_on sums₀ tallies₀ count sums tallies i sums' tallies' z c h ls lt e put =
-      record {
-        within = omega arith;
-        long = ls ∙ c.long;
-        wide = lt ∙ c.wide;
-        cleared = λ u l. put u ∙ go u l (eqb i u) refl;
-      }
+      → (u : ℕ) → u < i + 1 → gathered_row_in F sums' tallies' u ≡ nothing
+  cleared_on sums tallies i sums' tallies' z c e put u l = put u ∙ go (eqb i u) refl
     where
-      go : (u : ℕ) → u < i + 1 → (b : Bool) → eqb i u ≡ b → cond b (record { sum = z; count = 0; touch = 0 }) (gathered_row_in F sums tallies u) ≡ nothing
-      go u l true q = unfold nothing in ap (λ (p : F.Sum). record { sum = p; count = 0; touch = 0 }) e
-      go u l false q = c.cleared u (below i u l (eqb-false i u q))
-        where
-          below : (i u : ℕ) → u < i + 1 → i ≢ u → u < i
-          below i u l ne = apart i u ne (omega arith)
+      below : (i u : ℕ) → u < i + 1 → i ≢ u → u < i
+      below i u l ne = apart i u ne (omega arith)
+
+      go : (b : Bool) → eqb i u ≡ b → cond b (record { sum = z; count = 0; touch = 0 }) (gathered_row_in F sums tallies u) ≡ nothing
+      go true q = unfold nothing in ap (λ (p : F.Sum). record { sum = p; count = 0; touch = 0 }) e
+      go false q = c u (below i u l (eqb-false i u q))
 
   -- ---- one update
 
@@ -220,46 +203,36 @@ module _ (F : Form) where
   corners_count rank p v (c ∷ cs) g =
       omega (arith, corners_count rank p v cs (cond (eqb c v) (update rank p g) g), corner_count rank p g (eqb c v))
 
-  pub record Spreading (sums₀ : List F.Cell) (tallies₀ words : List ℕ) (start corners : ℕ) (p : F.Sum) (rank : ℕ) (sums : List F.Cell) (tallies : List ℕ) (k : ℕ) : Type 0 where
-    pub within : k ≤ corners
-    pub long : length sums ≡ length sums₀
-    pub wide : length tallies ≡ length tallies₀
-    pub told : (u : ℕ) → gathered_row_in F sums tallies u ≡ to_corners rank p u (take k (drop start words)) (gathered_row_in F sums₀ tallies₀ u)
+  module _ (sums₀ : List F.Cell) (tallies₀ corners : List ℕ) (p : F.Sum) (rank : ℕ) where
+    -- each vertex has what k of the corners give it
+    abbrev pub Spread : List F.Cell → List ℕ → ℕ → Type 0
+    Spread sums tallies k = (u : ℕ) → gathered_row_in F sums tallies u ≡ to_corners rank p u (take k corners) (gathered_row_in F sums₀ tallies₀ u)
 
-  module _ (sums₀ : List F.Cell) (tallies₀ words : List ℕ) (start corners : ℕ) (p : F.Sum) (rank : ℕ) where
-    pub spreading_start : Spreading sums₀ tallies₀ words start corners p rank sums₀ tallies₀ 0
+    pub spread_none : Spread sums₀ tallies₀ 0
     unfolding to_corners
-    spreading_start = record { within = omega arith; long = refl; wide = refl; told = λ u. refl }
+    spread_none u = refl
 
-    module _ (sums : List F.Cell) (tallies : List ℕ) (k count : ℕ) (s : Spreading sums₀ tallies₀ words start corners p rank sums tallies k) (h : k < corners)
-        (cs : Corners words start corners count) (v : ℕ) (e : v ≡ get_or words (start + k) 0) where
-      pub spreading_lent : Lent sums₀ tallies₀ count → Lent sums tallies (v + 1)
-      spreading_lent l =
-          let b = cs.below k h in
-          record { sum = omega (arith, s.long, l.sum); tally = omega (arith, s.wide, l.tally) }
+    module _ (sums : List F.Cell) (tallies : List ℕ) (k count : ℕ) (s : Spread sums tallies k) (h : k < length corners)
+        (below : (j : ℕ) → j < length corners → get_or corners j 0 < count) where
+      pub spread_lent : Lent sums tallies count → Lent sums tallies (get_or corners k 0 + 1)
+      spread_lent l =
+          let b = below k h in
+          record { sum = omega (arith, l.sum); tally = omega (arith, l.tally) }
 
-      pub spreading_light : ((u : ℕ) → u < count → (gathered_row_in F sums₀ tallies₀ u).count + corners ≤ MOST) → (gathered_row_in F sums tallies v).count < MOST
-      spreading_light f =
+      pub spread_light : ((u : ℕ) → u < count → (gathered_row_in F sums₀ tallies₀ u).count + length corners ≤ MOST) → (gathered_row_in F sums tallies (get_or corners k 0)).count < MOST
+      spread_light f =
+          let v = get_or corners k 0 in
           let g = gathered_row_in F sums₀ tallies₀ v in
-          omega (arith, ap (λ (g : GatheredIn F). g.count) (s.told v), corners_count rank p v (take k (drop start words)) g, length_part words start k (omega (arith, cs.room)), f v (omega (arith, e, cs.below k h)))
+          omega (arith, ap (λ (g : GatheredIn F). g.count) (s v), corners_count rank p v (take k corners) g, length-take k corners, f v (below k h))
 
-      pub spreading_on : (sums' : List F.Cell) (tallies' : List ℕ) → length sums' ≡ length sums → length tallies' ≡ length tallies
-          → ((u : ℕ) → gathered_row_in F sums' tallies' u ≡ cond (eqb v u) (update rank p (gathered_row_in F sums tallies u)) (gathered_row_in F sums tallies u))
-          → Spreading sums₀ tallies₀ words start corners p rank sums' tallies' (k + 1)
-      spreading_on sums' tallies' ls lt up =
-          record {
-            within = omega arith;
-            long = ls ∙ s.long;
-            wide = lt ∙ s.wide;
-            told = λ u. up u
-                ∙ ap₂ (λ (c : ℕ) (g : GatheredIn F). cond (eqb c u) (update rank p g) g) e (s.told u)
-                ∙ sym (corners_snoc rank p u (take k (drop start words)) (get_or words (start + k) 0) (gathered_row_in F sums₀ tallies₀ u))
-                ∙ ap (λ (l : List ℕ). to_corners rank p u l (gathered_row_in F sums₀ tallies₀ u)) (sym (part_more words start k (omega (arith, cs.room))));
-          }
-
-    pub spreading_done : (sums : List F.Cell) (tallies : List ℕ) (k : ℕ) → Spreading sums₀ tallies₀ words start corners p rank sums tallies k → corners ≤ k
-        → (u : ℕ) → gathered_row_in F sums tallies u ≡ to_corners rank p u (take corners (drop start words)) (gathered_row_in F sums₀ tallies₀ u)
-    spreading_done sums tallies k s h u = let e : k ≡ corners = omega arith in rw e at (s.told u)
+      pub spread_on : (sums' : List F.Cell) (tallies' : List ℕ)
+          → ((u : ℕ) → gathered_row_in F sums' tallies' u ≡ cond (eqb (get_or corners k 0) u) (update rank p (gathered_row_in F sums tallies u)) (gathered_row_in F sums tallies u))
+          → Spread sums' tallies' (k + 1)
+      spread_on sums' tallies' up u =
+          up u
+          ∙ ap (λ (g : GatheredIn F). cond (eqb (get_or corners k 0) u) (update rank p g) g) (s u)
+          ∙ sym (corners_snoc rank p u (take k corners) (get_or corners k 0) (gathered_row_in F sums₀ tallies₀ u))
+          ∙ ap (λ (l : List ℕ). to_corners rank p u l (gathered_row_in F sums₀ tallies₀ u)) (sym (rw add-one (take-suc corners k 0 h)))
 
   -- ---- the elements of a list, one by one
 
@@ -289,39 +262,30 @@ module _ (F : Form) where
       (position_of positions marks count (get_or words (start + k) 0) (c.below k (omega arith)))
       ∙ sym (ap (map (four_row F.points positions)) m ∙ map-append (four_row F.points positions) (take k (drop start words)) (get_or words (start + k) 0 ∷ []))
 
-  module _ (rank : ℕ) (result : List F.Point → F.Sum) (positions : List F.Coordinate) (words : List ℕ) (corners elements count : ℕ) (sums₀ : List F.Cell) (tallies₀ : List ℕ) where
+  module _ (rank : ℕ) (result : List F.Point → F.Sum) (positions : List F.Coordinate) (words : List ℕ) (corners count : ℕ) (sums₀ : List F.Cell) (tallies₀ : List ℕ) where
     pub record Collecting (sums : List F.Cell) (tallies : List ℕ) (i : ℕ) : Type 0 where
-      pub within : i ≤ elements
-      pub long : length sums ≡ length sums₀
-      pub wide : length tallies ≡ length tallies₀
       pub told : (marks : List ℕ) (u : ℕ) → gathered_row_in F sums tallies u
           ≡ gather rank result (first_of (vertex_row_in F positions marks) count) u (elements_of corners words i) (gathered_row_in F sums₀ tallies₀ u)
       pub light : (u : ℕ) → (gathered_row_in F sums tallies u).count ≤ (gathered_row_in F sums₀ tallies₀ u).count + corners * i
 
     pub collecting_start : Collecting sums₀ tallies₀ 0
     unfolding first_of gather
-    collecting_start = record { within = omega arith; long = refl; wide = refl; told = λ marks u. refl; light = λ u. omega arith }
+    collecting_start = record { told = λ marks u. refl; light = λ u. omega arith }
 
-    module _ (es : Elements words corners elements count) (sums : List F.Cell) (tallies : List ℕ) (i : ℕ) (c : Collecting sums tallies i) (h : i < elements) where
-      pub collecting_lent : Lent sums₀ tallies₀ count → Lent sums tallies count
-      collecting_lent l = record { sum = omega (arith, c.long, l.sum); tally = omega (arith, c.wide, l.tally) }
-
+    module _ (elements : ℕ) (es : Elements words corners elements count) (sums : List F.Cell) (tallies : List ℕ) (i : ℕ) (c : Collecting sums tallies i) (h : i < elements) where
       pub collecting_light : ((u : ℕ) → u < count → (gathered_row_in F sums₀ tallies₀ u).count + corners * elements ≤ MOST)
           → (u : ℕ) → u < count → (gathered_row_in F sums tallies u).count + corners ≤ MOST
       collecting_light f u k = omega (arith, f u k, c.light u, mul-suc corners i, mul-le-mul_left corners h)
 
-      pub collecting_on : (p : F.Sum) (sums' : List F.Cell) (tallies' : List ℕ) → length sums' ≡ length sums → length tallies' ≡ length tallies
+      pub collecting_on : (p : F.Sum) (sums' : List F.Cell) (tallies' : List ℕ)
           → p ≡ result (points_in F positions words ((corners + 1) * i) corners)
           → ((u : ℕ) → gathered_row_in F sums' tallies' u ≡ to_corners rank p u (take corners (drop ((corners + 1) * i) words)) (gathered_row_in F sums tallies u))
           → Collecting sums' tallies' (i + 1)
       unfolding element_row element_of
-      collecting_on p sums' tallies' ls lt ep up =
+      collecting_on p sums' tallies' ep up =
           let start = (corners + 1) * i in
           let cs = elements_corners words corners elements count i es h in
           record {
-            within = omega arith;
-            long = ls ∙ c.long;
-            wide = lt ∙ c.wide;
             told = λ marks u.
                 let vertices = first_of (vertex_row_in F positions marks) count in
                 up u
@@ -341,12 +305,3 @@ module _ (F : Form) where
                   mul-suc corners i,
                 );
           }
-
-    pub collecting_done : (sums : List F.Cell) (tallies : List ℕ) (i : ℕ) → Collecting sums tallies i → elements ≤ i
-        → (marks : List ℕ) (u : ℕ) → gathered_row_in F sums tallies u
-        ≡ gather rank result (first_of (vertex_row_in F positions marks) count) u (elements_of corners words elements) (gathered_row_in F sums₀ tallies₀ u)
-    collecting_done sums tallies i c h marks u = let e : i ≡ elements = omega arith in rw e at (c.told marks u)
-
-    pub collecting_bound : (sums : List F.Cell) (tallies : List ℕ) (i : ℕ) → Collecting sums tallies i → elements ≤ i
-        → (u : ℕ) → (gathered_row_in F sums tallies u).count ≤ (gathered_row_in F sums₀ tallies₀ u).count + corners * elements
-    collecting_bound sums tallies i c h u = let e : i ≡ elements = omega arith in rw e at (c.light u)

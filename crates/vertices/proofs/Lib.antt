@@ -5,6 +5,6 @@ pub mod Making
 pub mod Gathering
 pub mod Settling
 pub mod Smoothed
-pub mod Columns
+pub mod Kept
 -- both together: the vertices that a pass leaves
 pub mod Passed

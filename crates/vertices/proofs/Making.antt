@@ -2,7 +2,7 @@
 -- Assumes nothing.
 use mathlib.Core.Path.{◌≡◌, refl, sym, ◌∙◌, ap, ap₂}
 use mathlib.Core.List.{List, [], ◌∷◌, map, flat_map}
-use Prim.Native.Nat.{ℕ, ◌+◌, ◌*◌, ◌≤◌, ◌<◌}
+use Prim.Native.Nat.{ℕ, ◌+◌, ◌*◌, ◌<◌}
 use native.Mathlib.Omega.{arith}
 use lib.ListN.{length, get_or, take, length-append}
 use lib.Seq.{sets, length-sets}
@@ -17,9 +17,6 @@ use Rattle.vertices.proofs.Written.{sets_over, flat_read, laid_on, laid_over, ov
 -- a row of those that stand
 row_at : {A : Type 0} (positions : List A) (marks : List ℕ) (n i : ℕ) → Stand positions marks n → i < n → Row positions marks i
 row_at positions marks n i s h = record { position = omega arith; mark = omega arith }
-
-pub laid_fewer : {A : Type 0} (positions : List A) (marks : List ℕ) (n m : ℕ) → Stand positions marks (n + m) → Stand positions marks n
-laid_fewer positions marks n m s = record { points = omega arith; words = omega arith }
 
 pub first_row : {A : Type 0} (positions : List A) (marks book : List ℕ) (e count a : ℕ) → Stand positions marks count → Ends book e count → a ≡ get_or book (4 * e) 0
     → Row positions marks a
@@ -46,9 +43,6 @@ module _ (F : Form) where
 
       pub laid_words : length marks ≡ length noted
       laid_words = ap length l.words ∙ length-sets noted (3 * c) (flat_map (mark_words_in F) vertices)
-
-      pub laid_stand : (n : ℕ) → Stand held noted n → Stand positions marks n
-      laid_stand n s = record { points = omega (arith, laid_points); words = omega (arith, laid_words) }
 
       pub laid_row : (n i : ℕ) → Stand held noted n → i < n → Row positions marks i
       laid_row n i s h = record { position = omega (arith, laid_points); mark = omega (arith, laid_words) }
@@ -143,9 +137,8 @@ module _ (F : Form) where
   new_vertices olds book start new = sym (map_first_of (pair_in F olds) (λ (e : ℕ). pair_row book (start + e)) new)
 
   pub laid_all : (held : List F.Coordinate) (noted : List ℕ) (c : ℕ) (item : ℕ → F.Vertex) (i n : ℕ) (vertices : List F.Vertex) (positions : List F.Coordinate) (marks : List ℕ)
-      → i ≤ n → n ≤ i → LaidIn F held noted c (first_of item i) positions marks → first_of item n ≡ vertices → LaidIn F held noted c vertices positions marks
-  laid_all held noted c item i n vertices positions marks h k l e =
-      let q : i ≡ n = omega arith in
+      → i ≡ n → LaidIn F held noted c (first_of item i) positions marks → first_of item n ≡ vertices → LaidIn F held noted c vertices positions marks
+  laid_all held noted c item i n vertices positions marks q l e =
       rw (ap (first_of item) q ∙ e) at l
 
   length_new : (olds : List F.Vertex) (book : List ℕ) (start new : ℕ) → length (map (pair_in F olds) (pairs_from book start new)) ≡ new

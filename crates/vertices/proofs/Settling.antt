@@ -75,14 +75,13 @@ module _ (F : Form) where
   abbrev pub settled_row : Bool → List F.Coordinate → List ℕ → List F.Cell → List ℕ → ℕ → F.Vertex
   settled_row time positions marks sums tallies i = settled_in F time (vertex_row_in F positions marks i) (gathered_row_in F sums tallies i)
 
-  module _ (time : Bool) (held : List F.Coordinate) (marks : List ℕ) (sums : List F.Cell) (tallies : List ℕ) (count : ℕ) where
+  module _ (time : Bool) (held : List F.Coordinate) (marks : List ℕ) (sums : List F.Cell) (tallies : List ℕ) where
     pub record Settling (positions : List F.Coordinate) (i : ℕ) : Type 0 where
-      pub within : i ≤ count
       pub points : positions ≡ sets held (4 * 0) (flat_map (position_words_in F) (first_of (settled_row time held marks sums tallies) i))
 
     pub settling_start : Settling held 0
     unfolding first_of flat_map
-    settling_start = record { within = omega arith; points = refl }
+    settling_start = record { points = refl }
 
     module _ (positions : List F.Coordinate) (i : ℕ) (s : Settling positions i) where
       pub settling_length : length positions ≡ length held
@@ -105,28 +104,26 @@ module _ (F : Form) where
           let w = word 3 in
           λ j. F.vertex (F.points.four (x j) (y j) (z j) (w j)) (get_or marks (3 * i) 0) (get_or marks (3 * i + 1) 0) (get_or marks (3 * i + 2) 0)
 
-      pub settling_on : i < count → (v : F.Vertex) (sum : F.Sum) (n : ℕ) (p : F.Point) (positions' : List F.Coordinate) → v ≡ vertex_row_in F positions marks i
+      pub settling_on : (v : F.Vertex) (sum : F.Sum) (n : ℕ) (p : F.Point) (positions' : List F.Coordinate) → v ≡ vertex_row_in F positions marks i
           → sum ≡ four_row F.sums sums i → n ≡ get_or tallies (2 * i) 0
           → ((touch : ℕ) → p ≡ F.position (settled_in F time v (record { sum = sum; count = n; touch = touch })))
           → positions' ≡ sets positions (4 * i) (four_words F.points p) → Settling positions' (i + 1)
       unfolding gathered_row_in
-      settling_on h v sum n p positions' ev es en ep e =
+      settling_on v sum n p positions' ev es en ep e =
           let t = get_or tallies (2 * i + 1) 0 in
           let g : ◌≡◌ {A = GatheredIn F} (record { sum = sum; count = n; touch = t }) (gathered_row_in F sums tallies i) = λ j. record { sum = es j; count = en j; touch = t } in
           let q : p ≡ F.position (settled_row time held marks sums tallies i)
           = ep t ∙ ap₂ (λ (u : F.Vertex) (k : GatheredIn F). F.position (settled_in F time u k)) (ev ∙ row) g in
           let z : 4 * i ≡ 4 * (0 + i) = omega arith in
           record {
-            within = omega arith;
             points =
                 e
                 ∙ ap₂ (λ (k : ℕ) (r : F.Point). sets positions k (four_words F.points r)) z q
                 ∙ laid_on (position_words_in F) 4 (λ v. refl) held positions (settled_row time held marks sums tallies) 0 i s.points;
           }
 
-      pub settling_done : count ≤ i → 4 * count ≤ length held → positions ≡ over held (flat_map (position_words_in F) (first_of (settled_row time held marks sums tallies) count))
-      settling_done h r =
-          let e : i ≡ count = omega arith in
+      pub settling_done : (count : ℕ) → i ≡ count → 4 * count ≤ length held → positions ≡ over held (flat_map (position_words_in F) (first_of (settled_row time held marks sums tallies) count))
+      settling_done count e r =
           (rw e at s.points) ∙ laid_over (position_words_in F) 4 (λ v. refl) held (settled_row time held marks sums tallies) count r
 
   -- ---- the definition's list

@@ -7,51 +7,17 @@ use native.Mathlib.Nat.{mul-add, mul-suc, zero-add}
 use native.Mathlib.Numerals.{add-one, towards_suc}
 use native.Mathlib.Omega.{arith}
 use lib.ListN.{length, get_or, take, drop, set, length-append, length-drop}
-use lib.Seq.{sets, sets-eq, get_or-set_other, get_or-drop, length-take-le, take-suc, take-add, paste, paste-zero, paste-suc, length-paste}
+use lib.Seq.{sets, sets-eq, get_or-set_other, get_or-drop, length-take-le, take-suc, take-add}
 use Rattle.geom.specs.Memory.{first_of, over}
 use Rattle.geom.proofs.Rows.{length_first_of}
-
-pub four_stores : {A : Type 0} (l : List A) (a : ℕ) (x y z w : A)
-    → set (set (set (set l a x) (a + 1) y) (a + 2) z) (a + 3) w ≡ sets l a (x ∷ y ∷ z ∷ w ∷ [])
-four_stores l a x y z w = simp towards_suc
 
 pub three_stores : {A : Type 0} (l : List A) (a : ℕ) (x y z : A) → set (set (set l a x) (a + 1) y) (a + 2) z ≡ sets l a (x ∷ y ∷ z ∷ [])
 three_stores l a x y z = simp towards_suc
 
--- ---- words copied
-
--- of the first n words of one list, i stand over another
-pub record Copying {A : Type 0} (from to : List A) (n i : ℕ) (words : List A) : Type 0 where
-  pub within : i ≤ n
-  pub held : n ≤ length from
-  pub room : n ≤ length to
-  pub list : words ≡ paste to 0 from i
-
-module _ {A : Type 0} {from to : List A} {n : ℕ} where
-  pub copying_start : n ≤ length from → n ≤ length to → Copying from to n 0 to
-  copying_start h k = record { within = omega arith; held = h; room = k; list = paste-zero to 0 from }
-
-  module _ {i : ℕ} {words : List A} (c : Copying from to n i words) where
-    pub copying_length : length words ≡ length to
-    copying_length = ap length c.list ∙ length-paste to 0 from i (omega arith) (omega arith)
-
-    pub copying_on : (d : A) → i < n → Copying from to n (i + 1) (set words i (get_or from i d))
-    copying_on d h =
-        record {
-          within = omega arith;
-          held = c.held;
-          room = c.room;
-          list =
-              ap₂ (λ (w : List A) (k : ℕ). set w k (get_or from i d)) c.list (sym (zero-add i))
-              ∙ paste-suc to 0 from i d (omega arith) (omega arith)
-              ∙ ap (paste to 0 from) (sym (add-one i));
-        }
-
-    pub copying_done : n ≤ i → words ≡ over to (take n from)
-    unfolding over
-    copying_done h =
-        let e : i ≡ n = omega arith in
-        c.list ∙ ap (paste to 0 from) e ∙ ap (λ (k : ℕ). take n from ++ drop k to) (zero-add n ∙ sym (length-take-le n from c.held))
+-- the first n words of a list, copied over the start of another
+pub copied : {A : Type 0} (from to : List A) (n : ℕ) (now : List A) → n ≤ length from → now ≡ take n from → now ++ drop n to ≡ over to (take n from)
+unfolding over
+copied from to n now h e = ap₂ (λ (l : List _) (k : ℕ). l ++ drop k to) e (sym (length-take-le n from h))
 
 -- ---- rows read by place
 

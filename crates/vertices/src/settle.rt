@@ -1,10 +1,12 @@
-// Document 01, section 3: then sum/count replaces each axis that isn't flagged, and w only with smooth_time; a count of 0 changes nothing.
-ghost use Rattle.std.specs.Prelude.{◌≡◌, cond, not, ℕ, ◌/◌, ◌%◌, ◌*◌, ◌≤◌, ◌<◌, eqb};
+// Then sum/count replaces each axis that isn't flagged, and w only with smooth_time; a count of 0 changes nothing.
+ghost use Rattle.std.specs.Prelude.{◌≡◌, cond, not, ℕ, ◌/◌, ◌%◌, ◌≤◌, ◌<◌, eqb};
 ghost use Rattle.geom.specs.Memory.{first_of, vertex_row, over};
 ghost use Rattle.geom.specs.Smoothing as Smoothing;
-ghost use Rattle.vertices.specs.Cells.{positions_words, gathered_row, Stand, Lent, MOST};
+ghost use Rattle.vertices.specs.Cells.{positions_words, Stand, MOST};
+ghost use Rattle.vertices.specs.Gathered.{row, Holds};
 
-use crate::cells::{point_at, put_point, vertex_at};
+use crate::cells::{put_point, vertex_at};
+use crate::gather::Gathered;
 use geom::vertex::Vertex;
 use numbers::vec4::Vec4;
 
@@ -27,11 +29,11 @@ fn moved(v: Vertex, p: Vec4, time: bool) -> Vec4
     let x = axis(v.flags, 1, old.x, p.x);
     let y = axis(v.flags, 2, old.y, p.y);
     let z = axis(v.flags, 4, old.z, p.z);
-    if time {
-        let w = axis(v.flags, 8, old.w, p.w);
-        return Vec4 { x, y, z, w };
-    }
-    let w = old.w;
+    let w = if time {
+        axis(v.flags, 8, old.w, p.w)
+    } else {
+        old.w
+    };
     Vec4 { x, y, z, w }
 }
 
@@ -48,25 +50,16 @@ pub fn settled_point(v: Vertex, sum: Vec4, count: u32, time: bool) -> Vec4
 }
 
 // Each vertex in use, from what it has gathered. Its marks stay.
-pub fn settle(
-    positions: &mut [f32],
-    marks: &[u32],
-    sums: &[f32],
-    tallies: &[u32],
-    count: usize,
-    time: bool,
-)
+pub fn settle(positions: &mut [f32], marks: &[u32], gathered: &Gathered, count: usize, time: bool)
     requires stand { Stand positions.old marks.now count }
-    requires lent { Lent sums.now tallies.now count }
-    requires by_index { (u : ℕ) → u < count → (gathered_row sums.now tallies.now u).count ≤ MOST }
-    ensures { positions.new ≡ over positions.old (positions_words (first_of (λ (i : ℕ). Smoothing.settled time (vertex_row positions.old marks.now i) (gathered_row sums.now tallies.now i)) count)) }
+    requires lent { Holds gathered.now count }
+    requires by_index { (u : ℕ) → u < count → (row gathered.now u).count ≤ MOST }
+    ensures { positions.new ≡ over positions.old (positions_words (first_of (λ (i : ℕ). Smoothing.settled time (vertex_row positions.old marks.now i) (row gathered.now i)) count)) }
 {
-    let mut i: usize = 0;
-    while i < count {
+    for i in 0..count {
         let v = vertex_at(positions, marks, i);
-        let sum = point_at(sums, i);
-        let p = settled_point(v, sum, tallies[2 * i], time);
+        let sum = gathered.sum(i);
+        let p = settled_point(v, sum, gathered.tallies[2 * i], time);
         put_point(positions, i, p);
-        i += 1;
     }
 }

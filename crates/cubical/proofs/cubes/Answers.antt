@@ -10,6 +10,6 @@ pub divide_all-requires : goal.divide_all-requires
 unfolding below first_of order_of
 divide_all-requires c = record { shaped = record { some = omega arith; few = omega arith; ends = refl; made = refl; all = refl; places = refl; along = refl }; count_in_bounds = c.requires.count_in_bounds; begun = c.requires.begun }
 
-pub returns : goal.returns
+pub returns-clause-passed : goal.returns-clause-passed
 unfolding axes_of axis_from cube edge_at edges_of element_row first_of order_of row_of shape_of table_of
-returns c = c.divide_all.ensures
+returns-clause-passed c = c.divide_all.ensures.passed

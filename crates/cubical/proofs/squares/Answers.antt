@@ -5,10 +5,7 @@ use Rattle.division.specs.Shapes.{below, edge_at, edges_of, order_of, row_of, ta
 use native.Mathlib.Omega.{arith}
 use Rattle.cubical.proofs.squares.Goals as goal
 
-pub squares_by-requires : goal.squares_by-requires
+pub each_row-requires : goal.each_row-requires
 unfolding axes_of axis_from below edge_at edges_of element_row first_of order_of row_of shape_of table_of
-squares_by-requires c =
-    record { count_in_bounds = c.requires.count_in_bounds; shaped = record { some = omega arith; few = omega arith; ends = refl; made = refl; all = refl; places = refl; along = refl }; axes_value = refl; begun = c.requires.begun }
-
-pub returns : goal.returns
-returns c = c.squares_by.ensures
+each_row-requires c =
+    record { stands = (record { some = omega arith; few = omega arith; ends = refl; made = refl; all = refl; places = refl; along = refl }, refl); count_in_bounds = c.requires.count_in_bounds; begun = c.requires.begun }

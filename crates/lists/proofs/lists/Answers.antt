@@ -1,50 +1,46 @@
 -- `lists::lists` meets its contract: four lists, one after the other (`Passing`). Assumes nothing.
-use mathlib.Core.Path.{◌∙◌}
+use Rattle.std.proofs.lemmas.Result.{err_from_is_err_and}
+use mathlib.Core.Path.{sym}
 use native.Mathlib.Omega.{arith}
 use Rattle.geom.specs.Kinds.{kind_of}
 use Rattle.book.specs.Cells.{pairs_of}
-use Rattle.lists.specs.Lists.{slices}
+use Rattle.std.proofs.Common.{rules}
+use Rattle.book.proofs.Placing.{kept_on}
+use Rattle.lists.specs.Lists.{slices_of}
 use Rattle.lists.proofs.Passing.{full_lines, full_areas, full_volumes, full_curves, whole, lengths_stand, curves_stand}
 use Rattle.lists.proofs.lists.Goals as goal
 
-pub returns-in_default : goal.returns-in_default
-returns-in_default c = let b = slices c.args.lines.now c.args.areas.now c.args.volumes.now c.args.curves.now c.args.steps.now in let k = pairs_of c.args.book.now c.args.made in full_lines (kind_of c.args.kind) c.args.base c.args.room c.args.s c.args.c b k (rw c.in_default.is at c.lines-written.ensures)
+pub returns-in_err-line-clause-told : goal.returns-in_err-line-clause-told
+returns-in_err-line-clause-told c = let b = slices_of c.args.old.now in let k = pairs_of c.args.book.now c.args.made in rw (err_from_is_err_and c.from_residual.result c.from_residual.ensures.1).1 (full_lines (kind_of c.args.kind) c.args.base c.args.room c.args.s c.args.c b k (rw c.in_err-line.was at c.lines.ensures.passed))
 
-pub divide_areas-written-requires : goal.divide_areas-written-requires
-divide_areas-written-requires c = record { count_in_bounds = c.requires.reads.areas; begun = record { ready = (rw c.in-Rows.is at c.lines-written.ensures).ready; within = omega arith; lent = c.requires.writes.areas } }
+pub divide_parts-requires : goal.divide_parts-requires
+divide_parts-requires c = let k₁ = c.lines.ensures.kept in record { count_in_bounds = c.requires.reads.areas; begun = rw (k₁.base, k₁.room) (record { ready = (rw c.in_ok-line.was at c.lines.ensures.passed).ready; within = omega arith; lent = c.requires.writes.areas }) }
 
-pub returns-in_default-written : goal.returns-in_default-written
-returns-in_default-written c = let b = slices c.args.lines.now c.args.areas.now c.args.volumes.now c.args.curves.now c.args.steps.now in let k = pairs_of c.args.book.now c.args.made in full_areas (kind_of c.args.kind) c.args.base c.args.room c.args.s c.args.c b k (rw c.in-Rows.is at c.lines-written.ensures).entries (rw c.in_default-written.is at c.divide_areas-written.ensures)
+pub returns-in_err-area-clause-told : goal.returns-in_err-area-clause-told
+returns-in_err-area-clause-told c = let k₁ = c.lines.ensures.kept in let b = slices_of c.args.old.now in let k = pairs_of c.args.book.now c.args.made in rw (err_from_is_err_and c.from_residual-in_err-area.result c.from_residual-in_err-area.ensures.1).1 (full_areas (kind_of c.args.kind) c.args.base c.args.room c.args.s c.args.c b k (rw c.in_ok-line.was at c.lines.ensures.passed).entries (rw (k₁.base, k₁.room, c.in_err-area.was) at c.divide_parts.ensures.passed))
 
-pub divide_volumes-written-requires : goal.divide_volumes-written-requires
-divide_volumes-written-requires c = record { count_in_bounds = c.requires.reads.volumes; begun = record { ready = (rw c.in-Rows-written.is at c.divide_areas-written.ensures).ready; within = omega arith; lent = c.requires.writes.volumes } }
+pub divide_parts-requires-2 : goal.divide_parts-requires-2
+divide_parts-requires-2 c = let k₁ = c.lines.ensures.kept in let k₂ = kept_on c.lines.ensures.kept c.divide_parts.ensures.kept in record { count_in_bounds = c.requires.reads.volumes; begun = rw (k₂.base, k₂.room) (record { ready = (rw (k₁.base, k₁.room, c.in_ok-area.was) at c.divide_parts.ensures.passed).ready; within = omega arith; lent = c.requires.writes.volumes }) }
 
-pub returns-in_default-written-2 : goal.returns-in_default-written-2
-returns-in_default-written-2 c = let b = slices c.args.lines.now c.args.areas.now c.args.volumes.now c.args.curves.now c.args.steps.now in let k = pairs_of c.args.book.now c.args.made in full_volumes (kind_of c.args.kind) c.args.base c.args.room c.args.s c.args.c b k (rw c.in-Rows.is at c.lines-written.ensures).entries (rw c.in-Rows-written.is at c.divide_areas-written.ensures).entries (rw c.in_default-written-2.is at c.divide_volumes-written.ensures)
+pub returns-in_err-volume-clause-told : goal.returns-in_err-volume-clause-told
+returns-in_err-volume-clause-told c = let k₁ = c.lines.ensures.kept in let k₂ = kept_on c.lines.ensures.kept c.divide_parts.ensures.kept in let b = slices_of c.args.old.now in let k = pairs_of c.args.book.now c.args.made in rw (err_from_is_err_and c.from_residual-in_err-volume.result c.from_residual-in_err-volume.ensures.1).1 (full_volumes (kind_of c.args.kind) c.args.base c.args.room c.args.s c.args.c b k (rw c.in_ok-line.was at c.lines.ensures.passed).entries (rw (k₁.base, k₁.room, c.in_ok-area.was) at c.divide_parts.ensures.passed).entries (rw (k₂.base, k₂.room, c.in_err-volume.was) at c.divide_parts-2.ensures.passed))
 
-pub curves-written-requires : goal.curves-written-requires
-curves-written-requires c = record { count_in_bounds = c.requires.reads.curves; count_in_bounds_2 = lengths_stand c.args.s c.requires.sum c.requires.reads.steps; count_in_bounds_3 = curves_stand c.args.s c.args.c c.requires.curves c.requires.writes.curves; spread = record { ready = (rw c.in-Rows-written-2.is at c.divide_volumes-written.ensures).ready; within = omega arith; lent = c.requires.writes.steps; small = c.requires.small } }
+pub curves-requires : goal.curves-requires
+curves-requires c = let k₂ = kept_on c.lines.ensures.kept c.divide_parts.ensures.kept in let k₃ = kept_on (kept_on c.lines.ensures.kept c.divide_parts.ensures.kept) c.divide_parts-2.ensures.kept in record { count_in_bounds = c.requires.reads.curves; count_in_bounds_2 = lengths_stand c.args.s c.requires.sum c.requires.reads.steps; count_in_bounds_3 = curves_stand c.args.s c.args.c c.requires.curves c.requires.writes.curves; spread = rw (k₃.base, k₃.room) (record { ready = (rw (k₂.base, k₂.room, c.in_ok-volume.was) at c.divide_parts-2.ensures.passed).ready; within = omega arith; lent = c.requires.writes.steps; small = c.requires.small }) }
 
-pub shape_of-new_lines-in_default-written-3 : goal.shape_of-new_lines-in_default-written-3
-shape_of-new_lines-in_default-written-3 c = c.lines-written.auto.new
+pub returns-in_err-step-clause-told : goal.returns-in_err-step-clause-told
+returns-in_err-step-clause-told c = let k₁ = c.lines.ensures.kept in let k₂ = kept_on c.lines.ensures.kept c.divide_parts.ensures.kept in let k₃ = kept_on (kept_on c.lines.ensures.kept c.divide_parts.ensures.kept) c.divide_parts-2.ensures.kept in let b = slices_of c.args.old.now in let k = pairs_of c.args.book.now c.args.made in rw (err_from_is_err_and c.from_residual-in_err-step.result c.from_residual-in_err-step.ensures.1).1 (full_curves (kind_of c.args.kind) c.args.base c.args.room c.args.s c.args.c b k (rw c.in_ok-line.was at c.lines.ensures.passed).entries (rw (k₁.base, k₁.room, c.in_ok-area.was) at c.divide_parts.ensures.passed).entries (rw (k₂.base, k₂.room, c.in_ok-volume.was) at c.divide_parts-2.ensures.passed).entries c.requires.sum (rw (k₃.base, k₃.room, c.in_err-step.was) at c.curves.ensures.curved))
 
-pub shape_of-book-in_default-written-3 : goal.shape_of-book-in_default-written-3
-shape_of-book-in_default-written-3 c = c.curves-written.auto.book ∙ c.divide_volumes-written.auto.book ∙ c.divide_areas-written.auto.book ∙ c.lines-written.auto.book
-
-pub returns-in_default-written-3 : goal.returns-in_default-written-3
-returns-in_default-written-3 c = let b = slices c.args.lines.now c.args.areas.now c.args.volumes.now c.args.curves.now c.args.steps.now in let k = pairs_of c.args.book.now c.args.made in full_curves (kind_of c.args.kind) c.args.base c.args.room c.args.s c.args.c b k (rw c.in-Rows.is at c.lines-written.ensures).entries (rw c.in-Rows-written.is at c.divide_areas-written.ensures).entries (rw c.in-Rows-written-2.is at c.divide_volumes-written.ensures).entries c.requires.sum (rw c.in_default-written-3.is at c.curves-written.ensures)
-
-pub overflow_add-sizes : goal.overflow_add-sizes
-overflow_add-sizes c = let r = (rw c.in-Rows-written-3.is at c.curves-written.ensures).ready in omega (arith, r.within, r.numbers)
-
-pub shape_of-new_lines : goal.shape_of-new_lines
-shape_of-new_lines c = c.lines-written.auto.new
-
-pub shape_of-new_areas : goal.shape_of-new_areas
-shape_of-new_areas c = c.divide_areas-written.auto.new
-
-pub shape_of-book : goal.shape_of-book
-shape_of-book c = c.curves-written.auto.book ∙ c.divide_volumes-written.auto.book ∙ c.divide_areas-written.auto.book ∙ c.lines-written.auto.book
-
-pub returns : goal.returns
-returns c = let b = slices c.args.lines.now c.args.areas.now c.args.volumes.now c.args.curves.now c.args.steps.now in let k = pairs_of c.args.book.now c.args.made in whole (kind_of c.args.kind) c.args.base c.args.room c.args.s c.args.c b k c.requires.sum (rw c.in-Rows.is at c.lines-written.ensures) (rw c.in-Rows-written.is at c.divide_areas-written.ensures) (rw c.in-Rows-written-2.is at c.divide_volumes-written.ensures) (rw c.in-Rows-written-3.is at c.curves-written.ensures)
+pub returns-clause-told : goal.returns-clause-told
+returns-clause-told c =
+    let k₁ = c.lines.ensures.kept in
+    let k₂ = kept_on k₁ c.divide_parts.ensures.kept in
+    let k₃ = kept_on k₂ c.divide_parts-2.ensures.kept in
+    let same = sym (kept_on k₃ c.curves.ensures.kept).same in
+    let b = slices_of c.args.old.now in
+    whole (kind_of c.args.kind) c.args.base c.args.room c.args.s c.args.c b (pairs_of c.args.book.now c.args.made) c.requires.sum
+    (rw c.in_ok-line.was at c.lines.ensures.passed)
+    (rw (k₁.base, k₁.room, c.in_ok-area.was) at c.divide_parts.ensures.passed)
+    (rw (k₂.base, k₂.room, c.in_ok-volume.was) at c.divide_parts-2.ensures.passed)
+    (rw (k₃.base, k₃.room, c.in_ok-step.was) at c.curves.ensures.curved)
+    (search (rules, same))

@@ -1,11 +1,6 @@
 -- `page::answer` meets its contract: what is worked out for the bytes that were read is the text of every input of which so much was read. Assumes nothing.
-use mathlib.Core.Path.{sym}
-use lib.Seq.{length-take-le}
 use Rattle.page.proofs.Pages.{answered}
 use Rattle.page.proofs.answer.Goals as goal
-
-pub slice_bounds-sheet-end : goal.slice_bounds-sheet-end
-slice_bounds-sheet-end c = sym (length-take-le c.args.n c.args.buffer.now c.requires.within)
 
 pub returns : goal.returns
 returns c = answered c.args.buffer.now c.args.n c.requires.longer c.sheet.ensures

@@ -1,37 +1,49 @@
 -- `pass::pass` meets its contract: points, lists, vertices (`Ready` before the calls, `Whole` after them). Assumes nothing.
+use Rattle.std.proofs.lemmas.Result.{err_from_is_err_and}
+use mathlib.Core.Path.{◌∙◌}
 use Rattle.geom.specs.Kinds.{kind_of}
-use Rattle.judge.specs.Judged.{bench}
+use Rattle.geom.specs.Lent.{words_of}
 use Rattle.pass.proofs.Next.{passed_full}
 use Rattle.pass.proofs.Ready.{points_stand, points_room, given, entries_grow, vertices_ready, vertices_gather}
 use Rattle.pass.proofs.Whole.{passed_whole, cells_same}
 use Rattle.pass.proofs.pass.Goals as goal
 
 pub copy_points-requires : goal.copy_points-requires
-copy_points-requires c = record { count_in_bounds = points_stand c.requires.held c.requires.lends; count_in_bounds_2 = points_room c.requires.held c.requires.lends }
+copy_points-requires c =
+    record { count_in_bounds = points_stand c.requires.held c.requires.lends; count_in_bounds_2 = points_room c.requires.held c.requires.lends }
 
-pub lists-stage-requires : goal.lists-stage-requires
-lists-stage-requires c = given c.requires.held c.requires.lends
+pub lists-requires : goal.lists-requires
+lists-requires c = given c.requires.held c.requires.lends
 
-pub returns-in_default : goal.returns-in_default
-returns-in_default c = passed_full (kind_of c.args.kind) c.args.base c.args.s (bench c.args.positions.now c.args.marks.now c.args.points.now c.args.lines.now c.args.areas.now c.args.volumes.now c.args.curves.now c.args.steps.now) c.args.book.now c.args.made c.requires.held c.args.time c.requires.lends (rw c.in_default.is at c.lists-stage.ensures)
+pub returns-in_err-stage-clause-passed : goal.returns-in_err-stage-clause-passed
+returns-in_err-stage-clause-passed c =
+    rw (err_from_is_err_and c.from_residual.result c.from_residual.ensures.1).1
+    (passed_full (kind_of c.args.terms.kind) c.args.terms.base c.args.s (words_of c.args.old.now) c.args.work.now.book.now c.args.made c.requires.held c.args.terms.time c.requires.lends c.in_err-stage.ensures.told)
 
-pub overflow_sub-all : goal.overflow_sub-all
-overflow_sub-all c = let m = rw c.in-Whole.is at c.lists-stage.ensures in entries_grow c.requires.held c.requires.lends m
+pub overflow_sub-pairs : goal.overflow_sub-pairs
+overflow_sub-pairs c = entries_grow c.requires.held c.requires.lends c.in_ok-stage.ensures.told
 
 pub pass_vertices-requires : goal.pass_vertices-requires
-pass_vertices-requires c = let m = rw c.in-Whole.is at c.lists-stage.ensures in record { ready = vertices_ready c.requires.held c.requires.lends m; gathers = vertices_gather c.requires.held c.requires.lends m }
+pass_vertices-requires c =
+    let still = c.lists.ensures.still in
+    record { ready = rw (still.positions, still.marks) (vertices_ready c.requires.held c.requires.lends c.in_ok-stage.ensures.told); gathers = vertices_gather c.requires.held c.requires.lends c.in_ok-stage.ensures.told }
 
-pub shape_of-new_points : goal.shape_of-new_points
-shape_of-new_points c = c.copy_points.auto.new
-
-pub shape_of-new_lines : goal.shape_of-new_lines
-shape_of-new_lines c = c.lists-stage.auto.new_lines
-
-pub shape_of-new_areas : goal.shape_of-new_areas
-shape_of-new_areas c = c.lists-stage.auto.new_areas
-
-pub shape_of-new_volumes : goal.shape_of-new_volumes
-shape_of-new_volumes c = c.lists-stage.auto.new_volumes
-
-pub returns : goal.returns
-returns c = let m = rw c.in-Whole.is at c.lists-stage.ensures in passed_whole c.requires.held c.requires.lends m c.args.time c.pass_vertices.ensures c.copy_points.ensures (cells_same (kind_of c.args.kind) _ (bench c.args.new_positions.now c.args.new_marks.now c.args.new_points.now c.args.new_lines.now c.args.new_areas.now c.args.new_volumes.now c.args.new_curves.now c.args.new_steps.now) c.pass_vertices.auto.out c.pass_vertices.auto.notes c.copy_points.auto.new c.lists-stage.auto.new_lines c.lists-stage.auto.new_areas c.lists-stage.auto.new_volumes c.lists-stage.auto.new_curves c.lists-stage.auto.new_steps)
+pub returns-clause-passed : goal.returns-clause-passed
+returns-clause-passed c =
+    let still = c.lists.ensures.still in
+    let long = c.lists.ensures.same.long in
+    passed_whole c.requires.held c.requires.lends c.in_ok-stage.ensures.told c.args.terms.time (rw (still.positions, still.marks) at c.pass_vertices.ensures) (still.points ∙ c.copy_points.ensures)
+    (
+    cells_same (kind_of c.args.terms.kind) (
+    record {
+      positions = c.pass_vertices.auto.out ∙ long.positions;
+      marks = c.pass_vertices.auto.notes ∙ long.marks;
+      points = long.points ∙ c.copy_points.auto.new;
+      lines = long.lines;
+      areas = long.areas;
+      volumes = long.volumes;
+      curves = long.curves;
+      curve_vertices = long.curve_vertices;
+    }
+    )
+    )

@@ -12,10 +12,6 @@ pub returns-then-order-eq0 : goal.returns-then-order-eq0
 returns-then-order-eq0 c =
     arranged_none c.args.count c.args.order.now c.args.points.now c.if-order-eq0.true c.requires.count_in_bounds
 
-pub slice_bounds-piece-end-2 : goal.slice_bounds-piece-end-2
-slice_bounds-piece-end-2 c =
-    sym (length-take-le c.args.count c.args.points.now c.requires.count_in_bounds)
-
 pub piece-requires : goal.piece-requires
 piece-requires c =
     let t = length-take-le c.args.count c.args.points.now c.requires.count_in_bounds in

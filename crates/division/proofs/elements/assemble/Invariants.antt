@@ -1,11 +1,6 @@
--- `division::elements::assemble` meets its contract: a row of the table a turn (`Assembling`). Assumes nothing.
-use Prim.Native.Nat.{◌-◌}
-use lib.ListN.{length}
-use Rattle.division.proofs.Assembling.{Assembling}
+-- `division::elements::assemble` meets its contract: a row of the table a turn (`Rowing`). Assumes nothing.
+use Rattle.division.proofs.Assembling.{Rowing}
 use Rattle.division.proofs.elements.assemble.Given as goal
 
-abbrev pub invariant-loop-from : goal.invariant-loop-from
-invariant-loop-from l = Assembling l.corners l.parity l.points l.table l.axes l.cells l.rows l.initial.new l.from l.filled l.new
-
-abbrev pub decreases-loop-from : goal.decreases-loop-from
-decreases-loop-from l = length l.table - l.from
+abbrev pub invariant-loop-row : goal.invariant-loop-row
+invariant-loop-row l = Rowing l.corners l.parity l.points l.table l.axes l.cells l.rows l.initial.new l.row-iterator.rest.now l.row-iterator.size l.filled l.new

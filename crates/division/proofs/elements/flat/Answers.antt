@@ -7,20 +7,11 @@ use Rattle.division.proofs.elements.flat.Goals as goal
 pub loop-axis-init : goal.loop-axis-init
 loop-axis-init c = flattening_start
 
-pub overflow_sub-axes : goal.overflow_sub-axes
-overflow_sub-axes c = omega (arith, c.loop-axis.invariant.within)
-
 pub shut-requires : goal.shut-requires
 shut-requires c = record { tabled = c.requires.tabled; corners_in_bounds = c.requires.corners_in_bounds; corners_in_bounds_2 = omega (arith, c.loop-axis.invariant.within, c.loop-axis-test.true) }
 
 pub returns-then-shut : goal.returns-then-shut
 returns-then-shut c = flattening_found c.loop-axis.invariant c.requires.tabled.some c.loop-axis-test.true (sym c.if-shut.true ∙ c.shut.ensures)
-
-pub overflow_add-axis : goal.overflow_add-axis
-overflow_add-axis c = omega (arith, c.loop-axis.invariant.within, c.loop-axis-test.true, c.well_formed)
-
-pub loop-axis-smaller : goal.loop-axis-smaller
-loop-axis-smaller c = omega (arith, c.loop-axis.invariant.within, c.loop-axis-test.true, c.requires.tabled.some)
 
 pub loop-axis-preserved : goal.loop-axis-preserved
 loop-axis-preserved c = flattening_on c.loop-axis.invariant c.loop-axis-test.true (sym c.if-shut.false ∙ c.shut.ensures)

@@ -14,33 +14,13 @@ pub returns-then-rows-cells : goal.returns-then-rows-cells
 returns-then-rows-cells c =
     kept_full c.args.corners c.args.parity c.args.points.now c.args.table.now c.args.axes.now c.args.from (sym c.if-flat.false ∙ c.flat.ensures) c.if-rows-cells.true
 
-pub overflow_mul-at : goal.overflow_mul-at
-overflow_mul-at c =
-    let room = row_room c.args.corners c.args.rows c.args.cells (length c.args.new.now) (omega (arith, c.requires.rows_le_cells, c.if-rows-cells.false)) c.requires.cells_in_bounds in
-    omega (arith, room, c.well_formed)
-
 pub piece-requires : goal.piece-requires
 piece-requires c =
     let room = row_room c.args.corners c.args.rows c.args.cells (length c.args.new.now) (omega (arith, c.requires.rows_le_cells, c.if-rows-cells.false)) c.requires.cells_in_bounds in
     record { table_value = c.requires.tabled.places; count_in_bounds = omega (arith, c.requires.corners_in_bounds); count_in_bounds_2 = omega (arith, room) }
 
-pub overflow_add-new : goal.overflow_add-new
-overflow_add-new c =
-    let room = row_room c.args.corners c.args.rows c.args.cells (length c.args.new.now) (omega (arith, c.requires.rows_le_cells, c.if-rows-cells.false)) c.requires.cells_in_bounds in
-    omega (arith, room, c.piece.auto, c.well_formed)
-
-pub offset_bounds-new-at : goal.offset_bounds-new-at
-offset_bounds-new-at c =
-    let room = row_room c.args.corners c.args.rows c.args.cells (length c.args.new.now) (omega (arith, c.requires.rows_le_cells, c.if-rows-cells.false)) c.requires.cells_in_bounds in
-    omega (arith, room, c.piece.auto, c.well_formed)
-
-pub bounds-new-at : goal.bounds-new-at
-bounds-new-at c =
-    let room = row_room c.args.corners c.args.rows c.args.cells (length c.args.new.now) (omega (arith, c.requires.rows_le_cells, c.if-rows-cells.false)) c.requires.cells_in_bounds in
-    omega (arith, room, c.piece.auto, c.well_formed)
-
 pub returns : goal.returns
 returns c =
     kept_laid c.args.corners c.args.parity c.args.points.now c.args.table.now c.args.axes.now c.args.from (sym c.if-flat.false ∙ c.flat.ensures)
     (omega (arith, c.requires.rows_le_cells, c.if-rows-cells.false)) c.requires.cells_in_bounds c.requires.corners_in_bounds refl c.piece.ensures
-    (c.word_of-word.ensures ∙ ap parity_word c.turned.ensures)
+    (c.from-word.ensures ∙ ap parity_word c.turned.ensures)

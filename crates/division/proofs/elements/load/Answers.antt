@@ -1,23 +1,13 @@
--- `division::elements::load` meets its contract: a copy, word by word. Assumes nothing.
-use Rattle.division.proofs.Rows.{first_of_part, copying_start, copying_length, copying_on, copying_done}
+-- `division::elements::load` meets its contract: a copy. Assumes nothing.
+use native.Mathlib.Nat.{add-sub_cancel_left}
 use native.Mathlib.Omega.{arith}
+use lib.ListN.{drop, length-drop}
+use lib.Seq.{length-take-le}
+use Rattle.division.proofs.Rows.{written_copy}
 use Rattle.division.proofs.elements.load.Goals as goal
-
-pub loop-i-init : goal.loop-i-init
-loop-i-init c = copying_start _ (omega arith)
-
-pub offset_bounds-points-i : goal.offset_bounds-points-i
-offset_bounds-points-i c = omega (arith, copying_length c.loop-i.invariant, c.requires)
-
-pub bounds-points-i : goal.bounds-points-i
-bounds-points-i c = omega (arith, copying_length c.loop-i.invariant, c.requires)
-
-pub loop-i-preserved : goal.loop-i-preserved
-loop-i-preserved c = copying_on _ c.loop-i.invariant c.loop-i-test.true (omega arith)
-
-pub shape_of-points : goal.shape_of-points
-shape_of-points c = copying_length c.loop-i.invariant
 
 pub returns : goal.returns
 returns c =
-    copying_done _ c.loop-i.invariant c.loop-i-test.false (first_of_part 0 c.args.old.now c.args.from c.args.count c.requires.count_in_bounds)
+    let rest = drop c.args.from c.args.old.now in
+    rw (c.copy_from_slice.ensures.after, add-sub_cancel_left c.args.from c.args.count)
+    (written_copy _ _ c.args.count (length-take-le c.args.count rest (omega (arith, length-drop c.args.from c.args.old.now, c.requires.count_in_bounds))))

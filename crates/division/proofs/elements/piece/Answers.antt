@@ -1,7 +1,7 @@
 -- `division::elements::piece` meets its contract: a copy of the points at the places, word by word. Assumes nothing.
 use mathlib.Core.Path.{refl}
 use lib.ListN.{length}
-use Rattle.division.proofs.Rows.{first_of_pick, copying_start, copying_length, copying_on, copying_done}
+use Rattle.division.proofs.Rows.{first_of_pick, copying_start, copying_on, copying_done}
 use Rattle.division.proofs.Tables.{below_at}
 use native.Mathlib.Omega.{arith}
 use Rattle.division.proofs.elements.piece.Goals as goal
@@ -9,33 +9,12 @@ use Rattle.division.proofs.elements.piece.Goals as goal
 pub loop-i-init : goal.loop-i-init
 loop-i-init c = copying_start _ (omega (arith, c.requires))
 
-pub overflow_add-from : goal.overflow_add-from
-overflow_add-from c = omega (arith, c.loop-i-test.true, c.requires, c.well_formed)
-
 pub point_at-requires : goal.point_at-requires
 point_at-requires c =
     record { at_in_bounds = omega (arith, c.requires); at_in_bounds_2 = below_at (length c.args.points.now) c.args.table.now c.requires.table_value _ (omega (arith, c.requires)) }
 
-pub overflow_add-new : goal.overflow_add-new
-overflow_add-new c = omega (arith, copying_length c.loop-i.invariant, c.loop-i-test.true, c.requires, c.well_formed)
-
-pub offset_bounds-new-at : goal.offset_bounds-new-at
-offset_bounds-new-at c = omega (arith, copying_length c.loop-i.invariant, c.loop-i-test.true, c.requires, c.well_formed)
-
-pub bounds-new-at : goal.bounds-new-at
-bounds-new-at c = omega (arith, copying_length c.loop-i.invariant, c.loop-i-test.true, c.requires, c.well_formed)
-
-pub overflow_add-i : goal.overflow_add-i
-overflow_add-i c = omega (arith, c.loop-i-test.true, c.requires, c.well_formed)
-
-pub loop-i-smaller : goal.loop-i-smaller
-loop-i-smaller c = omega (arith, c.loop-i-test.true)
-
 pub loop-i-preserved : goal.loop-i-preserved
 loop-i-preserved c = rw c.point_at.ensures (copying_on _ c.loop-i.invariant c.loop-i-test.true refl)
-
-pub shape_of-new : goal.shape_of-new
-shape_of-new c = copying_length c.loop-i.invariant
 
 pub returns : goal.returns
 returns c =

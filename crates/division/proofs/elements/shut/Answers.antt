@@ -12,54 +12,21 @@ use Rattle.division.proofs.elements.shut.Goals.{else-loop-i-test, then-loop-i-te
 pub loop-i-init : goal.loop-i-init
 loop-i-init c = shutting_start
 
-pub overflow_mul-i : goal.overflow_mul-i
-overflow_mul-i c = omega (arith, (shut_turn _ _ _ _ _ _ c.requires.tabled.along c.requires.corners_in_bounds c.requires.corners_in_bounds_2 c.loop-i-test.true), c.well_formed)
-
-pub overflow_add-axis : goal.overflow_add-axis
-overflow_add-axis c = omega (arith, (shut_turn _ _ _ _ _ _ c.requires.tabled.along c.requires.corners_in_bounds c.requires.corners_in_bounds_2 c.loop-i-test.true), c.well_formed)
-
-pub offset_bounds-axes-axis : goal.offset_bounds-axes-axis
-offset_bounds-axes-axis c = omega (arith, (shut_turn _ _ _ _ _ _ c.requires.tabled.along c.requires.corners_in_bounds c.requires.corners_in_bounds_2 c.loop-i-test.true), c.well_formed)
-
-pub bounds-axes-axis : goal.bounds-axes-axis
-bounds-axes-axis c = omega (arith, (shut_turn _ _ _ _ _ _ c.requires.tabled.along c.requires.corners_in_bounds c.requires.corners_in_bounds_2 c.loop-i-test.true), c.well_formed)
-
-pub overflow_add-from : goal.overflow_add-from
-overflow_add-from c = omega (arith, (shut_turn _ _ _ _ _ _ c.requires.tabled.along c.requires.corners_in_bounds c.requires.corners_in_bounds_2 c.loop-i-test.true), c.well_formed)
-
 pub point_at-a-requires : goal.point_at-a-requires
 point_at-a-requires c =
     let t = (shut_turn _ _ _ _ _ _ c.requires.tabled.along c.requires.corners_in_bounds c.requires.corners_in_bounds_2 c.loop-i-test.true) in
     record { at_in_bounds = t.near; at_in_bounds_2 = below_at (length c.args.points.now) c.args.table.now c.requires.tabled.places _ t.near }
-
-pub overflow_mul-i-in-loop-i : goal.overflow_mul-i-in-loop-i
-overflow_mul-i-in-loop-i c = omega (arith, (shut_turn _ _ _ _ _ _ c.requires.tabled.along c.requires.corners_in_bounds c.requires.corners_in_bounds_2 c.loop-i-test.true), c.well_formed)
-
-pub overflow_add-axis-in-loop-i : goal.overflow_add-axis-in-loop-i
-overflow_add-axis-in-loop-i c = omega (arith, (shut_turn _ _ _ _ _ _ c.requires.tabled.along c.requires.corners_in_bounds c.requires.corners_in_bounds_2 c.loop-i-test.true), c.well_formed)
-
-pub overflow_add-axis-in-loop-i-2 : goal.overflow_add-axis-in-loop-i-2
-overflow_add-axis-in-loop-i-2 c = omega (arith, (shut_turn _ _ _ _ _ _ c.requires.tabled.along c.requires.corners_in_bounds c.requires.corners_in_bounds_2 c.loop-i-test.true), c.well_formed)
-
-pub offset_bounds-axes-axis-in-loop-i : goal.offset_bounds-axes-axis-in-loop-i
-offset_bounds-axes-axis-in-loop-i c = omega (arith, (shut_turn _ _ _ _ _ _ c.requires.tabled.along c.requires.corners_in_bounds c.requires.corners_in_bounds_2 c.loop-i-test.true), c.well_formed)
-
-pub bounds-axes-axis-in-loop-i : goal.bounds-axes-axis-in-loop-i
-bounds-axes-axis-in-loop-i c = omega (arith, (shut_turn _ _ _ _ _ _ c.requires.tabled.along c.requires.corners_in_bounds c.requires.corners_in_bounds_2 c.loop-i-test.true), c.well_formed)
-
-pub overflow_add-from-in-loop-i : goal.overflow_add-from-in-loop-i
-overflow_add-from-in-loop-i c = omega (arith, (shut_turn _ _ _ _ _ _ c.requires.tabled.along c.requires.corners_in_bounds c.requires.corners_in_bounds_2 c.loop-i-test.true), c.well_formed)
 
 pub point_at-b-requires : goal.point_at-b-requires
 point_at-b-requires c =
     let t = (shut_turn _ _ _ _ _ _ c.requires.tabled.along c.requires.corners_in_bounds c.requires.corners_in_bounds_2 c.loop-i-test.true) in
     record { at_in_bounds = t.far; at_in_bounds_2 = below_at (length c.args.points.now) c.args.table.now c.requires.tabled.places _ t.far }
 
-pub overflow_add-i : goal.overflow_add-i
-overflow_add-i c = omega (arith, (shut_turn _ _ _ _ _ _ c.requires.tabled.along c.requires.corners_in_bounds c.requires.corners_in_bounds_2 c.loop-i-test.true), c.well_formed)
+pub overflow_add-from : goal.overflow_add-from
+overflow_add-from c = omega (arith, (shut_turn _ _ _ _ _ _ c.requires.tabled.along c.requires.corners_in_bounds c.requires.corners_in_bounds_2 c.loop-i-test.true), c.well_formed)
 
-pub loop-i-smaller : goal.loop-i-smaller
-loop-i-smaller c = omega (arith, c.loop-i-test.true)
+pub overflow_add-from-in-loop-i : goal.overflow_add-from-in-loop-i
+overflow_add-from-in-loop-i c = omega (arith, (shut_turn _ _ _ _ _ _ c.requires.tabled.along c.requires.corners_in_bounds c.requires.corners_in_bounds_2 c.loop-i-test.true), c.well_formed)
 
 pub loop-i-preserved : goal.loop-i-preserved
 loop-i-preserved c =

@@ -2,9 +2,6 @@
 use mathlib.Core.Path.{refl}
 use Rattle.division.proofs.lines.lines.Goals as goal
 
-pub lines_by-requires : goal.lines_by-requires
-lines_by-requires c =
-    record { count_in_bounds = c.requires.count_in_bounds; table_value = refl; begun = c.requires.begun }
-
-pub returns : goal.returns
-returns c = c.lines_by.ensures
+pub each_row-requires : goal.each_row-requires
+each_row-requires c =
+    record { stands = refl; count_in_bounds = c.requires.count_in_bounds; begun = c.requires.begun }

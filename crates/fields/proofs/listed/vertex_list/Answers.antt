@@ -1,19 +1,10 @@
 -- `fields::listed::vertex_list` meets its contract. Assumes nothing.
-use native.Mathlib.Omega.{arith}
-use Rattle.fields.proofs.Listing.{count_stops, rows_stop}
+use Rattle.std.proofs.Common.{rules}
+use Prim.Native.Nat.{ℕ}
+use Rattle.geom.specs.File.{vertex}
+use Rattle.fields.specs.Fields.{vertex_at}
+use Rattle.fields.proofs.Listing.{lists}
 use Rattle.fields.proofs.listed.vertex_list.Goals as goal
 
-pub returns-in_default : goal.returns-in_default
-returns-in_default c = rw c.in_default.is (count_stops c.args.file.now c.args.at _ _ _ (rw c.in_default.is at c.counted-field.ensures))
-
-pub overflow_add-at : goal.overflow_add-at
-overflow_add-at c = let s = rw c.in-Value.is at c.counted-field.ensures in omega (arith, s.reads.stands)
-
-pub vertices-requires : goal.vertices-requires
-vertices-requires c = (rw c.in-Value.is at c.counted-field.ensures).reads.stands
-
-pub returns-in-Finished : goal.returns-in-Finished
-returns-in-Finished c = record { count = rw c.in-Value.is at c.counted-field.ensures; rows = rw c.in-Finished.is at c.vertices.ensures }
-
-pub returns-in-Refused : goal.returns-in-Refused
-returns-in-Refused c = rows_stop _ _ _ _ _ _ (rw c.in-Value.is at c.counted-field.ensures) (rw c.in-Refused.is at c.vertices.ensures)
+pub returns : goal.returns
+returns c = lists _ c.args.file.now c.args.at c.args.lent 25 (λ (p : ℕ). vertex_at c.args.file.now p) vertex (λ p h r q. search rules) c.listed.result c.listed.ensures

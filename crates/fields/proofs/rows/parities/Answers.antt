@@ -1,21 +1,11 @@
--- `fields::rows::parities` meets its contract: the parities passed were read. Assumes nothing.
-use native.Mathlib.Omega.{arith}
+-- `fields::rows::parities` meets its contract. Assumes nothing.
+use Rattle.std.proofs.Common.{rules}
 use Prim.Native.Nat.{ℕ, ◌+◌}
+use native.Mathlib.Omega.{arith}
+use Rattle.geom.specs.File.{parity}
 use Rattle.fields.specs.Fields.{parity_at}
-use Rattle.fields.proofs.Several.{rows_start, rows_on, rows_off, rows_done, one}
+use Rattle.fields.proofs.Several.{one, each_passes}
 use Rattle.fields.proofs.rows.parities.Goals as goal
 
-pub loop-i-init : goal.loop-i-init
-loop-i-init c = (omega arith, rows_start _ _ _ 1 (λ (i : ℕ). parity_at c.args.file.now (c.args.at + i)) c.requires)
-
-pub overflow_add-at : goal.overflow_add-at
-overflow_add-at c = omega (arith, c.loop-i.invariant.1.stands)
-
-pub returns-in_default : goal.returns-in_default
-returns-in_default c = rw c.in_default.is (rows_off _ _ _ _ _ _ _ _ c.loop-i.invariant.1 c.loop-i-test.true (rw (one _) (rw c.in_default.is at c.parity-ended.ensures)))
-
-pub loop-i-preserved : goal.loop-i-preserved
-loop-i-preserved c = (omega arith, rows_on _ _ _ _ _ _ c.loop-i.invariant.1 (rw (one _) (rw c.in-Finished.is at c.parity-ended.ensures)))
-
 pub returns : goal.returns
-returns c = rw (one _) at (rows_done _ _ _ _ _ _ _ c.loop-i.invariant.0 c.loop-i-test.false c.loop-i.invariant.1)
+returns c = rw (one _) at (each_passes _ c.args.file.now c.args.at 1 (λ (p : ℕ). parity_at c.args.file.now p) parity (λ p h r q. search rules) (λ (i : ℕ). c.args.at + i) (λ i. omega arith) c.several.result c.args.n c.requires c.several.ensures)

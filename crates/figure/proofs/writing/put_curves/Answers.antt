@@ -1,6 +1,6 @@
 -- `figure::writing::put_curves` meets its contract: the curves passed were written. Assumes nothing.
 use native.Mathlib.Omega.{arith}
-use Rattle.figure.proofs.Strings.{begins, stringing_start, stringing_rows, stringing_words, stringing_next, stringing_on, stringing_done}
+use Rattle.figure.proofs.Strings.{begins, stringing_start, stringing_words, stringing_next, stringing_on, stringing_done}
 use Rattle.figure.proofs.writing.put_curves.Goals as goal
 
 pub overflow_add-place : goal.overflow_add-place
@@ -25,13 +25,7 @@ pub overflow_add-from : goal.overflow_add-from
 overflow_add-from c = let s = stringing_next _ _ _ _ _ _ _ _ _ _ c.loop-i.invariant c.requires c.loop-i-test.true in let l = stringing_words _ _ _ _ _ _ _ _ _ _ c.loop-i.invariant in omega (arith, s.room, c.put_curve-count.ensures.count, l, c.well_formed)
 
 pub loop-i-preserved : goal.loop-i-preserved
-loop-i-preserved c = stringing_on _ _ _ _ _ _ _ _ _ _ c.loop-i.invariant c.requires _ _ _ c.loop-i-test.true c.put_curve-count.ensures
-
-pub shape_of-curves : goal.shape_of-curves
-shape_of-curves c = stringing_rows _ _ _ _ _ _ _ _ _ _ c.loop-i.invariant
-
-pub shape_of-steps : goal.shape_of-steps
-shape_of-steps c = stringing_words _ _ _ _ _ _ _ _ _ _ c.loop-i.invariant
+loop-i-preserved c = stringing_on _ _ _ _ _ _ _ _ _ _ c.loop-i.invariant c.requires _ _ _ c.put_curve-count.ensures
 
 pub returns : goal.returns
-returns c = stringing_done _ _ _ _ _ _ _ _ _ _ c.loop-i.invariant c.requires c.loop-i-test.false
+returns c = stringing_done _ _ _ _ _ _ _ _ _ _ c.loop-i.invariant c.requires c.loop-i.auto.i-end c.loop-i-test.false

@@ -1,10 +1,6 @@
 -- `figure::writing::put_numbers` meets its contract: the numbers passed were written. Assumes nothing.
-use Prim.Native.Nat.{◌-◌}
 use Rattle.figure.proofs.Elements.{Numbers}
 use Rattle.figure.proofs.writing.put_numbers.Given as goal
 
 abbrev pub invariant-loop-i : goal.invariant-loop-i
 invariant-loop-i l = Numbers l.file l.at l.initial.out l.out l.from l.n l.i
-
-abbrev pub decreases-loop-i : goal.decreases-loop-i
-decreases-loop-i l = l.n - l.i

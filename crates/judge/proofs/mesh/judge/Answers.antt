@@ -2,11 +2,13 @@
 -- Assumes nothing.
 use Rattle.geom.specs.Kinds.{kind_of}
 use Rattle.geom.specs.Refusals.{good_parity}
-use Rattle.judge.specs.Judged.{bench}
+use Rattle.geom.specs.Lent.{words_of}
+use Rattle.judge.specs.Counts.{benches_of}
+use mathlib.Core.Path.{◌∙◌, ap}
 use Rattle.judge.proofs.Verdicts.{told}
 use Rattle.judge.proofs.mesh.judge.Goals as goal
 
 pub returns : goal.returns
 unfolding good_parity
 returns c =
-    told (kind_of c.args.kind) c.args.sizes c.args.time (bench c.args.positions.now c.args.marks.now c.args.points.now c.args.lines.now c.args.areas.now c.args.volumes.now c.args.curves.now c.args.steps.now) c.args.second c.args.sums c.args.tallies _ c.benches_hold-nine.ensures _ c.handed_in.ensures
+    told (kind_of c.args.kind) c.args.sizes c.args.time (words_of c.args.bench.now) c.args.second c.args.sums c.args.tallies _ (c.benches_hold-nine.ensures ∙ ap (λ first. benches_of (kind_of c.args.kind) first c.args.second c.args.sums c.args.tallies) c.of.ensures) _ c.handed_in.ensures

@@ -3,4 +3,4 @@ use Rattle.judge.proofs.Every.{words_narrow}
 use Rattle.judge.proofs.words.all_below.Goals as goal
 
 pub returns : goal.returns
-returns c = words_narrow c.args.words.now c.args.end _ _ (λ i. (c.shared_slice_known-1.given i).fits) c.if-bound-lt4294967296.false
+returns c = words_narrow c.args.words.now c.args.end _ _ (λ i. (c.type_inv.words i).fits) c.if-bound-lt4294967296.false

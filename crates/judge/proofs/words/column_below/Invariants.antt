@@ -1,11 +1,8 @@
 -- `judge::words::column_below` meets its contract: it is known whether the rows passed are below the bound. Assumes nothing.
 use mathlib.Core.Path.{◌≡◌}
-use Prim.Native.Nat.{◌+◌, ◌-◌, ◌*◌, ◌≤◌}
+use Prim.Native.Nat.{◌+◌, ◌*◌}
 use Rattle.judge.specs.Words.{column_below}
 use Rattle.judge.proofs.words.column_below.Given as goal
 
 abbrev pub invariant-loop-i : goal.invariant-loop-i
-invariant-loop-i l = (l.i ≤ l.rows) × (l.at ≡ l.width * l.i + l.column) × (l.all ≡ column_below l.words l.width l.column l.i l.bound)
-
-abbrev pub decreases-loop-i : goal.decreases-loop-i
-decreases-loop-i l = l.rows - l.i
+invariant-loop-i l = (l.at ≡ l.width * l.i + l.column) × (l.all ≡ column_below l.words l.width l.column l.i l.bound)

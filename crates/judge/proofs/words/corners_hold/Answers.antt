@@ -14,10 +14,10 @@ pub returns-then-all_below : goal.returns-then-all_below
 returns-then-all_below c = words_corners _ _ _ _ c.requires (sym c.all_below.ensures ∙ c.if-all_below.true)
 
 pub loop-i-init : goal.loop-i-init
-loop-i-init c = (omega arith, every_start _ _)
+loop-i-init c = every_start _ _
 
-pub overflow_mul-start : goal.overflow_mul-start
-overflow_mul-start c = omega (arith, row_end _ _ _ _ c.requires c.loop-i-test.true)
+pub overflow_mul-corners-in-loop-i : goal.overflow_mul-corners-in-loop-i
+overflow_mul-corners-in-loop-i c = omega (arith, row_end _ _ _ _ c.requires c.loop-i-test.true)
 
 pub column_below-requires : goal.column_below-requires
 column_below-requires c = let l = row_end _ _ _ _ c.requires c.loop-i-test.true in record { column = row_column _ _ _ (omega arith); width_bound = omega arith }
@@ -26,7 +26,7 @@ pub returns-then-not-column_below : goal.returns-then-not-column_below
 returns-then-not-column_below c = sym (every_off _ _ _ _ c.loop-i-test.true (sym (row_corners _ _ _ _ _ c.requires c.loop-i-test.true) ∙ sym c.column_below.ensures ∙ c.if-not-column_below.true))
 
 pub loop-i-preserved : goal.loop-i-preserved
-loop-i-preserved c = (omega arith, every_on _ _ _ c.loop-i.invariant.1 (sym (row_corners _ _ _ _ _ c.requires c.loop-i-test.true) ∙ sym c.column_below.ensures ∙ c.if-not-column_below.false))
+loop-i-preserved c = every_on _ _ _ c.loop-i.invariant (sym (row_corners _ _ _ _ _ c.requires c.loop-i-test.true) ∙ sym c.column_below.ensures ∙ c.if-not-column_below.false)
 
 pub returns : goal.returns
-returns c = every_done _ _ _ _ _ c.loop-i.invariant.0 c.loop-i-test.false (sym c.loop-i.invariant.1)
+returns c = every_done _ _ _ _ _ c.loop-i.auto.i-end c.loop-i-test.false (sym c.loop-i.invariant)

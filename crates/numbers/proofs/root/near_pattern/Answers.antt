@@ -3,14 +3,11 @@
 use Rattle.std.proofs.Common.{arith}
 use lib.Ieee.{binary64}
 use lib.Ieee.Fits.{mul-fits}
-use Rattle.numbers.proofs.Patterns.{equal_to_itself, below_infinity, one_more_fits}
+use Rattle.numbers.proofs.Patterns.{below_infinity, one_more_fits}
 use Rattle.numbers.proofs.root.near_pattern.Goals as goal
 
 pub float_from_bits-y : goal.float_from_bits-y
 float_from_bits-y c = below_infinity binary64 _ (omega arith)
 
-pub float_to_bits-guess : goal.float_to_bits-guess
-float_to_bits-guess c = equal_to_itself _ c.if-guess.false
-
-pub overflow_add-guess : goal.overflow_add-guess
-overflow_add-guess c = record { fits = one_more_fits _ (mul-fits binary64 _ _) }
+pub overflow_add-result : goal.overflow_add-result
+overflow_add-result c = record { fits = one_more_fits _ (mul-fits binary64 _ _) }

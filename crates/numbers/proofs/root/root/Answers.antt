@@ -3,10 +3,9 @@
 use Rattle.std.proofs.Common.{true, ◌≡◌, ◌^◌, ◌<◌, T, sym, ap, ◌∙◌, subst, arith}
 use lib.Ieee.{Float, binary32, fits, of_bits, to_bits}
 use lib.Ieee.Bits.{of_bits-fits, of_bits-to_bits, to_bits-lt}
-use lib.Ieee.Compare.{differs_from_itself}
 use Rattle.numbers.specs.Root.{root}
-use Rattle.numbers.proofs.Patterns.{equal_to_itself, widens, below_infinity}
-use Rattle.numbers.proofs.RootOf.{root_of_nan, root_of_own, root_of_negative, above_zero, root_fits}
+use Rattle.numbers.proofs.Patterns.{below_infinity}
+use Rattle.numbers.proofs.RootOf.{root_of_nan, root_of_own, root_of_negative, root_fits}
 use Rattle.numbers.proofs.root.root.Goals as goal
 
 -- what owning an f32 tells: the format holds it
@@ -19,18 +18,8 @@ own x e = of_bits-to_bits binary32 x (held x e)
 small : (x : Float) → fits binary32 x ≡ true → to_bits binary32 x < 2 ^ 32
 small x e = to_bits-lt binary32 x (held x e)
 
-pub returns-then-x : goal.returns-then-x
-returns-then-x c = sym (root_of_nan _ (differs_from_itself _ (subst T (sym c.if-x.true) tt)))
-
-pub float_to_bits-bits : goal.float_to_bits-bits
-float_to_bits-bits c = equal_to_itself _ c.if-x.false
-
-pub float_to_float-x : goal.float_to_float-x
-float_to_float-x c =
-    widens _ (held c.args.x c.well_formed.0.1) c.if-x.false
-
-pub root_bits-requires : goal.root_bits-requires
-root_bits-requires c = above_zero _ c.if-bits.true
+pub returns-then-is_nan : goal.returns-then-is_nan
+returns-then-is_nan c = sym (root_of_nan _ (sym c.is_nan.ensures.value ∙ c.if-is_nan.true))
 
 pub float_from_bits-result : goal.float_from_bits-result
 float_from_bits-result c = below_infinity binary32 _ c.root_bits.ensures.1

@@ -1,18 +1,9 @@
 -- `numbers::root::root_pattern` meets its contract: it works out `root_at`, whose pattern is known (`RootOf.antt`), and no step leaves its type (`Radicand.antt`).
 -- Assumes nothing.
 use Rattle.std.proofs.Common.{arith}
-use Rattle.numbers.proofs.Radicand.{zeros_to, shift_small, shifted, radicand_below}
+use Rattle.numbers.proofs.Radicand.{shifted, radicand_below}
 use Rattle.numbers.proofs.RootOf.{pattern_is}
 use Rattle.numbers.proofs.root.root_pattern.Goals as goal
-
-pub overflow_sub-half : goal.overflow_sub-half
-overflow_sub-half c = omega (arith, zeros_to _ _ c.requires.0 c.requires.1 c.requires.2)
-
-pub overflow_sub-half-2 : goal.overflow_sub-half-2
-overflow_sub-half-2 c = omega (arith, zeros_to _ _ c.requires.0 c.requires.1 c.requires.2)
-
-pub overflow_shl-radicand : goal.overflow_shl-radicand
-overflow_shl-radicand c = shift_small _ _ c.requires.0 c.requires.1 c.requires.2
 
 pub rounded_root-rounded-requires : goal.rounded_root-rounded-requires
 rounded_root-rounded-requires c = let p = c.requires in rw (shifted _ _ p.0 p.1 p.2) (radicand_below _ _ p.0 p.1 p.2)

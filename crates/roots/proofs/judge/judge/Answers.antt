@@ -1,7 +1,7 @@
 -- `roots::judge::judge` meets its contract, by how far the argument's digits are to be shifted. Assumes nothing.
 use Rattle.std.proofs.Common.{sym, arith}
 use Rattle.roots.specs.Exact.{upper}
-use Rattle.roots.proofs.Exactly.{lies_below, lies_above, lies_beside, leading, square_fits}
+use Rattle.roots.proofs.Exactly.{lies_below, lies_above, lies_beside, leading}
 use Rattle.roots.proofs.judge.judge.Goals as goal
 
 pub returns-then-up-down : goal.returns-then-up-down
@@ -12,12 +12,6 @@ returns-then-shift-ge64 c = sym (lies_above _ _ c.requires (omega arith) (omega 
 
 pub lower-low-requires : goal.lower-low-requires
 lower-low-requires c = omega (arith, leading _ c.requires.normal)
-
-pub overflow_mul-low : goal.overflow_mul-low
-overflow_mul-low c = record { fits = square_fits _ (omega arith) }
-
-pub overflow_mul-high-2 : goal.overflow_mul-high-2
-overflow_mul-high-2 c = record { fits = square_fits _ (omega arith) }
 
 pub returns : goal.returns
 unfolding upper

@@ -1,18 +1,14 @@
 -- `told::opening::kind_word` meets its contract. Assumes nothing.
-use Rattle.geom.specs.declared.answer.Opened.{Opened}
+use mathlib.Core.Path.{sym, ◌∙◌, ap}
 use Rattle.geom.specs.Answers.{judgement_of}
 use Rattle.told.specs.Told.{kind_word}
-use mathlib.Core.Path.{sym, ap}
+use Rattle.told.proofs.Saying.{kind_said}
 use Rattle.told.proofs.opening.kind_word.Goals as goal
 
-pub returns-in-Cubes : goal.returns-in-Cubes
+pub returns-in-Ok : goal.returns-in-Ok
 unfolding judgement_of
-returns-in-Cubes c = sym (ap (λ (o : Opened). kind_word (judgement_of o)) c.in-Cubes.is)
+returns-in-Ok c = kind_said c.in-Ok.kind ∙ sym (ap (λ o. kind_word (judgement_of o)) c.in-Ok.is)
 
-pub returns-in-Simplices : goal.returns-in-Simplices
+pub returns-in-Err : goal.returns-in-Err
 unfolding judgement_of
-returns-in-Simplices c = sym (ap (λ (o : Opened). kind_word (judgement_of o)) c.in-Simplices.is)
-
-pub returns-in-Refused : goal.returns-in-Refused
-unfolding judgement_of
-returns-in-Refused c = sym (ap (λ (o : Opened). kind_word (judgement_of o)) c.in-Refused.is)
+returns-in-Err c = sym (ap (λ o. kind_word (judgement_of o)) c.in-Err.is)

@@ -1,18 +1,13 @@
 -- `told::opening::refusal` meets its contract. Assumes nothing.
-use Rattle.geom.specs.declared.answer.Opened.{Opened}
+use mathlib.Core.Path.{sym, ◌∙◌, ap}
 use Rattle.geom.specs.Answers.{judgement_of}
 use Rattle.told.specs.Told.{refusal_of}
-use mathlib.Core.Path.{sym, ap}
 use Rattle.told.proofs.opening.refusal.Goals as goal
 
-pub returns-in-Cubes : goal.returns-in-Cubes
+pub returns-in-Ok : goal.returns-in-Ok
 unfolding judgement_of
-returns-in-Cubes c = sym (ap (λ (o : Opened). refusal_of (judgement_of o)) c.in-Cubes.is)
+returns-in-Ok c = sym (ap (λ o. refusal_of (judgement_of o)) c.in-Ok.is)
 
-pub returns-in-Simplices : goal.returns-in-Simplices
+pub returns-in-Err : goal.returns-in-Err
 unfolding judgement_of
-returns-in-Simplices c = sym (ap (λ (o : Opened). refusal_of (judgement_of o)) c.in-Simplices.is)
-
-pub returns-in-Refused : goal.returns-in-Refused
-unfolding judgement_of
-returns-in-Refused c = sym (ap (λ (o : Opened). refusal_of (judgement_of o)) c.in-Refused.is)
+returns-in-Err c = c.from.ensures ∙ sym (ap (λ o. refusal_of (judgement_of o)) c.in-Err.is)

@@ -4,4 +4,4 @@ use Rattle.told.proofs.opening.tell_reading.Goals as goal
 
 pub returns : goal.returns
 unfolding sizes_words
-returns c = opening_by _ _ _ c.refusal.ensures c.kind_word-kind.ensures c.requires
+returns c = opening_by _ _ _ c.refusal.ensures c.kind_word.ensures

@@ -1,12 +1,9 @@
--- `told::words::number` meets its contract: the number says the whole verdict (`number_by`). Assumes nothing.
-use Rattle.geom.specs.Answers.{verdict_of}
-use Rattle.told.proofs.Saying.{number_by}
+-- `told::words::number` meets its contract: the number says the whole verdict. Assumes nothing.
+use Rattle.told.proofs.Saying.{finished_by, refused_by}
 use Rattle.told.proofs.words.number.Goals as goal
 
-pub returns-in-Finished : goal.returns-in-Finished
-unfolding verdict_of
-returns-in-Finished c = number_by c.in-Finished.is c.requires
+pub returns-in-Ok : goal.returns-in-Ok
+returns-in-Ok c = finished_by c.in-Ok.is
 
-pub returns-in-Refused : goal.returns-in-Refused
-unfolding verdict_of
-returns-in-Refused c = number_by c.in-Refused.is c.requires
+pub returns-in-Err : goal.returns-in-Err
+returns-in-Err c = refused_by _ c.from.ensures c.in-Err.is

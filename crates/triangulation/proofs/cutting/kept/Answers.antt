@@ -4,36 +4,32 @@ use Prim.Native.Nat.{◌+◌, ◌*◌}
 use lib.ListN.{length}
 use Rattle.geom.specs.declared.parity.Parity.TheVariants.{Even}
 use Rattle.triangulation.proofs.Turns.{counting_start, counting_on, counting_done}
-use Rattle.triangulation.proofs.Pieces.{row_lies, from_few, cut_turns, counted_few}
+use Rattle.triangulation.proofs.Pieces.{from_few, cut_turns, counted_few}
 use native.Mathlib.Omega.{arith}
 use Rattle.triangulation.proofs.cutting.kept.Goals as goal
 
 pub loop-j-init : goal.loop-j-init
-loop-j-init c = λ p. counting_start
-
-pub overflow_add-size : goal.overflow_add-size
-overflow_add-size c = omega (arith, row_lies c.requires c.loop-j-test.true, c.well_formed)
-
-pub overflow_mul-size : goal.overflow_mul-size
-overflow_mul-size c = omega (arith, row_lies c.requires c.loop-j-test.true, c.well_formed)
-
-pub one-kept-requires : goal.one-kept-requires
-one-kept-requires c = record { speaks = c.requires.speaks; size_in_bounds = row_lies c.requires c.loop-j-test.true }
+loop-j-init g c = λ p. counting_start
 
 pub overflow_add-kept : goal.overflow_add-kept
-overflow_add-kept c =
+overflow_add-kept g c =
+    let l = rw c.PIECES-pieces.ensures at c.loop-j-test.true in
     omega (
       arith,
-      counted_few c.args.size c.args.table.now Even c.args.points.now (c.loop-j.invariant Even),
+      counted_few g.C.Cut.SIZE g.C.Cut.table Even c.args.points.now (c.loop-j.invariant Even),
       c.one-kept.ensures Even,
-      from_few c.args.size c.args.table.now ((c.args.size + 1) * c.loop-j.j) Even c.args.points.now,
-      c.loop-j-test.true,
-      c.requires.few,
+      from_few g.C.Cut.SIZE g.C.Cut.table ((c.SIZE-size.result + 1) * c.loop-j.j) Even c.args.points.now,
+      l,
+      g.met.C.Cut.holds.few,
     )
 
 pub loop-j-preserved : goal.loop-j-preserved
-loop-j-preserved c = λ p. counting_on (c.loop-j.invariant p) c.loop-j-test.true (c.one-kept.ensures p)
+loop-j-preserved g c =
+    λ p.
+    counting_on (c.loop-j.invariant p) (rw c.PIECES-pieces.ensures at c.loop-j-test.true) (rw c.SIZE-size.ensures at (c.one-kept.ensures p))
 
 pub returns : goal.returns
-returns c =
-    λ p. counting_done (c.loop-j.invariant p) c.loop-j-test.false ∙ ap length (sym (cut_turns c.args.size c.args.table.now p c.args.points.now c.args.pieces))
+returns g c =
+    λ p.
+    counting_done (c.loop-j.invariant p) (rw c.PIECES-pieces.ensures at c.loop-j-test.false)
+    ∙ ap length (sym (cut_turns g.C.Cut.SIZE g.C.Cut.table p c.args.points.now g.C.Cut.PIECES))

@@ -1,12 +1,8 @@
 -- `triangulation::cutting::kept` meets its contract: a row of the table a turn (`Counting`). Assumes nothing.
-use Prim.Native.Nat.{◌-◌}
 use Rattle.geom.specs.declared.parity.Parity.{Parity}
 use Rattle.triangulation.proofs.Turns.{Counting}
 use Rattle.triangulation.proofs.Pieces.{row_makes}
 use Rattle.triangulation.proofs.cutting.kept.Given as goal
 
 abbrev pub invariant-loop-j : goal.invariant-loop-j
-invariant-loop-j l = (p : Parity) → Counting (row_makes l.size l.table p l.points) l.pieces l.j l.kept
-
-abbrev pub decreases-loop-j : goal.decreases-loop-j
-decreases-loop-j l = l.pieces - l.j
+invariant-loop-j g l = (p : Parity) → Counting (row_makes g.C.Cut.SIZE g.C.Cut.table p l.points) g.C.Cut.PIECES l.j l.kept

@@ -1,12 +1,8 @@
 -- `triangulation::cutting::meets` meets its contract: a pair of neighbours a turn (`Meeting`). Assumes nothing.
-use Prim.Native.Nat.{◌-◌}
 use lib.ListN.{take, drop}
 use Rattle.geom.specs.Elements.{pick}
 use Rattle.triangulation.proofs.Meeting.{Meeting}
 use Rattle.triangulation.proofs.cutting.meets.Given as goal
 
 abbrev pub invariant-loop-i : goal.invariant-loop-i
-invariant-loop-i l = Meeting (pick l.points (take l.size (drop l.from l.table))) l.size l.i l.last
-
-abbrev pub decreases-loop-i : goal.decreases-loop-i
-decreases-loop-i l = l.size - 1 - l.i
+invariant-loop-i g l = Meeting (pick l.points (take g.C.Cut.SIZE (drop l.from g.C.Cut.table))) g.C.Cut.SIZE l.i l.last

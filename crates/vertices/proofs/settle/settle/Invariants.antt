@@ -1,11 +1,7 @@
 -- `vertices::settle::settle` meets its contract: the vertices passed are settled, and the others still hold what they held. Assumes nothing.
-use Prim.Native.Nat.{◌-◌}
 use Rattle.geom.specs.Floats.{binary32}
 use Rattle.vertices.proofs.Settling.{Settling}
 use Rattle.vertices.proofs.settle.settle.Given as goal
 
 abbrev pub invariant-loop-i : goal.invariant-loop-i
-invariant-loop-i l = Settling binary32 l.time l.initial.positions l.marks l.sums l.tallies l.count l.positions l.i
-
-abbrev pub decreases-loop-i : goal.decreases-loop-i
-decreases-loop-i l = l.count - l.i
+invariant-loop-i l = Settling binary32 l.time l.initial.positions l.marks l.gathered.sums.now l.gathered.tallies.now l.positions l.i

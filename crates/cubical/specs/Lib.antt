@@ -1,0 +1,2 @@
+-- That squares only add to the book.
+pub mod Growing

@@ -1,6 +1,0 @@
--- `left::place_positions` meets its contract: the part's bench and its length (`placed`). Assumes nothing.
-use Rattle.left.proofs.Picked.{placed}
-use Rattle.left.proofs.place_positions.Goals as goal
-
-pub returns : goal.returns
-returns c = placed _ _ _ _ _ c.left_positions-part.ensures

@@ -1,2 +1,0 @@
--- what a file was found to be
-pub mod Loading

@@ -1,8 +1,0 @@
--- `numbers::vec4::Vec4::scale` meets its contract: it does the steps of `scaled` in their order. Assumes nothing.
-use Rattle.std.proofs.Common.{refl}
-use Rattle.numbers.specs.Points4.{scaled}
-use Rattle.numbers.proofs.vec4.Vec4.scale.Goals as goal
-
-pub returns : goal.returns
-unfolding scaled
-returns c = refl

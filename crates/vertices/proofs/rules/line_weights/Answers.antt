@@ -1,8 +1,0 @@
--- `vertices::rules::line_weights` meets its contract. Assumes nothing.
-use mathlib.Core.Path.{refl}
-use lib.Ieee.{of_bits}
-use Rattle.vertices.proofs.rules.line_weights.Goals as goal
-
-pub returns : goal.returns
-unfolding of_bits
-returns c = refl

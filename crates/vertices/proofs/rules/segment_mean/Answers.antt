@@ -1,9 +1,0 @@
--- `vertices::rules::segment_mean` meets its contract, corner by corner. Assumes nothing.
-use mathlib.Core.List.{[], ◌∷◌}
-use Rattle.geom.specs.Memory.{first_of}
-use Rattle.vertices.proofs.Columns.{mean_is}
-use Rattle.vertices.proofs.rules.segment_mean.Goals as goal
-
-pub returns : goal.returns
-unfolding first_of
-returns c = mean_is c.args.positions.now c.args.words.now c.args.start 2 _ c.requires.corners _ _ (λ i. c.corner-a.ensures i ∷ c.corner-b.ensures i ∷ []) c.mean2.ensures
