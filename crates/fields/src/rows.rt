@@ -2,7 +2,7 @@
 ghost use Rattle.std.specs.Prelude.{ℕ, ◌+◌, ◌*◌, ◌≤◌, length, get_or, Ok};
 ghost use Rattle.geom.specs.File as File;
 ghost use Rattle.geom.specs.Refinement.{LIMIT};
-ghost use Rattle.fields.specs.Fields.{mark_field, flags_field, word_at, coordinate_at, vertex_at, parity_at, numbers_at, parities_at, wide, element_at, Passes, Each, Counts, Strings, Winds, WindAll};
+ghost use Rattle.fields.specs.Fields.{mark_field, flags_field, word_at, coordinate_at, vertex_at, vertices_at, parity_at, numbers_at, parities_at, wide, element_at, elements_at, Passes, Each, Counts, Strings, Winds, WindAll};
 
 use crate::field::{byte_at, float_of, word_at};
 use geom::refusal::Refusal;
@@ -114,6 +114,14 @@ pub fn several<F: Fn(usize) -> Result<(), Refusal>>(
     Ok(())
 }
 
+// Vertices, one after the other.
+pub fn vertices(file: &[u8], at: usize, n: usize) -> Result<(), Refusal>
+    requires { at ≤ length file.now }
+    ensures { Passes result file.now at (at + 25 * n) (vertices_at file.now at n) (File.several n File.vertex) }
+{
+    several(file, at, 25, n, |place| vertex(file, place))
+}
+
 // Vertex numbers, one after the other: points, an element's corners, a curve's vertices.
 pub fn numbers(file: &[u8], at: usize, n: usize, count: usize) -> Result<(), Refusal>
     requires { at ≤ length file.now }
@@ -138,6 +146,26 @@ pub fn element(file: &[u8], at: usize, corners: usize, count: usize) -> Result<(
 {
     numbers(file, at, corners, count)?;
     parity(file, at + 4 * corners)
+}
+
+// Elements, one after the other: lines, areas or volumes.
+pub fn elements(
+    file: &[u8],
+    at: usize,
+    n: usize,
+    corners: usize,
+    count: usize,
+) -> Result<(), Refusal>
+    requires { (at ≤ length file.now) × (corners ≤ 8) }
+    ensures { Passes result file.now at (at + wide corners * n) (elements_at corners file.now at n) (File.several n (File.element count corners)) }
+{
+    several(
+        file,
+        at,
+        4 * corners + 1,
+        n,
+        |place| element(file, place, corners, count),
+    )
 }
 
 // A curve's vertex count: 0 is 8; else 10 is judged, on the total over all curves so far, which may be more than 32 bits.

@@ -56,7 +56,8 @@ pub fn load(file: &[u8], bench: &mut BenchMut, other: &Bench) -> Reading
     ensures loaded { outcome (opening_of result) (words_on bench.new) ≡ loaded (words_on bench.old) (words_of other.now) file.now }
 {
     let first = Lengths::of(&bench.read());
-    if !benches_equal(first, Lengths::of(other)) {
+    let second = Lengths::of(other);
+    if !benches_equal(first, second) {
         return refused(Refusal::Count);
     }
     match figure(file, first) {

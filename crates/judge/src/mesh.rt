@@ -1,5 +1,5 @@
 // A mesh in memory is refused by the first of 9, 5, 6, 7, 8, then 10 for the lists handed in, that is due.
-ghost use Rattle.std.specs.Prelude.{◌≡◌, List, ℕ};
+ghost use Rattle.std.specs.Prelude.{◌≡◌, List, ℕ, length};
 ghost use Rattle.geom.specs.Answers.{verdict_of, first_due};
 ghost use Rattle.geom.specs.Kinds.{kind_of};
 ghost use Rattle.geom.specs.Forms.{Numbers, form};
@@ -21,14 +21,22 @@ use geom::bench::Bench;
 use geom::kind::Kind;
 use geom::refusal::Refusal;
 
-// 9: no list counts more entries than its lent cells, and the curves' lengths add up to the curve vertices.
+// 9: no list counts more entries than its lent cells, which the slices' lengths give, and the curves' lengths add up to the curve vertices.
+pub fn counts_within(kind: Kind, sizes: Sizes, first: Lengths, curves: &[u32]) -> bool
+    requires { first.curves ≡ length curves.now }
+    ensures { (n : Numbers) (b : BenchIn (form n)) → lengths_of b ≡ first → b.curves ≡ curves.now → result ≡ counts_hold (kind_of kind) sizes b }
+{
+    if !within(sizes, cells(kind, first)) {
+        return false;
+    }
+    lengths_hold(curves, sizes.curves, sizes.curve_vertices)
+}
+
+// The same of a bench.
 pub fn counts_hold(kind: Kind, sizes: Sizes, bench: &Bench) -> bool
     ensures { (n : Numbers) (b : BenchIn (form n)) → lengths_of b ≡ lengths_of (words_of bench.now) → b.curves ≡ bench.now.curves.now → result ≡ counts_hold (kind_of kind) sizes b }
 {
-    if !within(sizes, cells(kind, Lengths::of(bench))) {
-        return false;
-    }
-    lengths_hold(bench.curves, sizes.curves, sizes.curve_vertices)
+    counts_within(kind, sizes, Lengths::of(bench), bench.curves)
 }
 
 // 5: flag bytes and parities, those of a curve's steps too.

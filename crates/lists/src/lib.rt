@@ -19,6 +19,7 @@ use division::lines::lines as divide_lines;
 use geom::answer::Sizes;
 use geom::bench::{Bench, BenchMut};
 use geom::kind::Kind;
+use geom::words::copy;
 use simplicial::{tetrahedra, triangles};
 
 // What a pass gives: the sizes and the book's entries afterwards.
@@ -176,5 +177,5 @@ pub fn copy_points(old: &[u32], new: &mut [u32], count: usize)
     requires count_in_bounds_2 { count ≤ length new.old }
     ensures { new.new ≡ over new.old (points_of old.now count) }
 {
-    new[..count].copy_from_slice(&old[..count]);
+    copy(old, new, count);
 }

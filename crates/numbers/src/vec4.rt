@@ -1,6 +1,9 @@
 // A point: four numbers carried together, axes x, y, z and w (time).
-ghost use Rattle.std.specs.Prelude.{◌≡◌, ◌≤◌};
+ghost use Rattle.std.specs.Prelude.{◌≡◌};
+ghost use Rattle.numbers.specs.Binary32.{count};
 ghost use Rattle.numbers.specs.Points4 as Points4;
+
+use std::num::nearest_usize_to_f32;
 
 #[derive(Clone, Copy)]
 pub struct Vec4 {
@@ -83,16 +86,28 @@ impl Vec4 {
     }
 }
 
+// Up to here every whole number is a binary32 number.
+const EXACT: usize = 16_777_216;
+
+// n as a number. A few corners are cast, which costs nothing where n is a constant; the library rounds what has no number of its own.
+fn count(n: usize) -> f32
+    ensures { result ≡ count n }
+{
+    if n <= EXACT {
+        return n as f32;
+    }
+    nearest_usize_to_f32(n)
+}
+
 // The corner sum of an element, divided by the number of corners, which is a constant in each instance.
 pub fn mean<const N: usize>(corners: [Vec4; N]) -> Vec4
-    requires { N ≤ 16_777_216 }
     ensures { result ≡ Points4.mean corners.entry }
 {
     let mut sum = Vec4::zero();
     for i in 0..N {
         sum = sum.add(corners[i]);
     }
-    sum.over(N as f32)
+    sum.over(count(N))
 }
 
 // The matrix with the columns a, b, c and d times the column of weights.

@@ -7,6 +7,7 @@ use mathlib.Core.List.{List}
 use Prim.Native.Nat.{ℕ, zero, suc, ◌+◌, ◌-◌, ◌%◌, ◌<◌, ◌≤◌}
 use native.Mathlib.Omega.{arith}
 use lib.Dec.{eqb}
+use lib.ListN.{length}
 use Rattle.std.specs.Prelude.{Result, Ok, Err}
 use Rattle.geom.specs.declared.answer.Sizes.{Sizes}
 use Rattle.geom.specs.declared.answer.Refined.{Refined}
@@ -150,7 +151,90 @@ turned {F} {kind} {base} time s made book {book'} {r} {here} {here'} {there} {th
     subst (λ (x : BenchIn F). Passed kind base (lent_of kind x book) (pass_over kind time base (state_of kind s x book made)) there' book' r) p
     (subst (λ (y : BenchIn F). Passed kind base (lent_of kind here book) (pass_over kind time base (state_of kind s here book made)) y book' r) q f)
 
--- ---- the loop
+-- ---- the loop, over any form
+
+module _ {F : Form} (kind : Kind) (time : Bool) (base room : ℕ) (c : Sizes) (depth : ℕ) (lent : Lent) (run : RunIn F) (first₀ : BenchIn F) where
+  -- the answer, from the side on which the run ended
+  pub ran : {r : Refined} (n : ℕ) (first second : BenchIn F) → Ends kind time base room c depth lent run first₀ r (side n first second) n → Ran kind run r first₀ first second
+  ran n first second e =
+      record {
+        answer = e.answer;
+        stands = subst (λ (k : ℕ). StandsFor kind (side k first second) run.left.mesh) (sym e.passes) e.stands;
+        steps = subst (λ (k : ℕ). LastSteps k first₀ (side k first second) run.left.mesh) (sym e.passes) e.steps;
+      }
+
+  module _ (second₀ : BenchIn F) (book₀ : List ℕ) (sums₀ : List F.Cell) (tallies₀ : List ℕ) where
+    -- after n passes: the bench of the last whole pass stands for the state, and the slices have kept their lengths
+    pub record Going (first second : BenchIn F) (book : List ℕ) (sums : List F.Cell) (tallies : List ℕ) (n : ℕ) (s : Sizes) (made : ℕ) : Type 0 where
+      pub at : At kind time base room c depth lent run first₀ (side n first second) (side (n + 1) first second) book sums tallies n s made
+      pub one : AsLong first first₀
+      pub two : AsLong second second₀
+      pub entries : length book ≡ length book₀
+      pub sum : length sums ≡ length sums₀
+      pub tally : length tallies ≡ length tallies₀
+
+    module _ {first second : BenchIn F} {book : List ℕ} {sums : List F.Cell} {tallies : List ℕ} {n : ℕ} {s : Sizes} {made : ℕ} (g : Going first second book sums tallies n s made) where
+      abbrev here : BenchIn F
+      here = side n first second
+
+      -- at the depth
+      pub done : depth ≤ n → (r : Refined) → told r ≡ record { passes = n; sizes = s; verdict = accepted } → Ran kind run r first₀ first second
+      done k r t = ran n first second (ends_done kind time base room c depth lent run first₀ g.at k r t)
+
+      module _ {first' second' : BenchIn F} {book' : List ℕ} (k : n < depth) (stays : side n first' second' ≡ here) where
+        -- where the pass did not fit
+        pub full :
+            {f : Full} (r : Refined) → Passed kind base (lent_of kind here book) (pass_over kind time base (state_of kind s here book made)) (side (n + 1) first' second') book' (Err f)
+            → told r ≡ record { passes = n; sizes = s; verdict = refused 10 } → Ran kind run r first₀ first' second'
+        full r f t =
+            ran n first' second'
+            (subst (λ (b : BenchIn F). Ends kind time base room c depth lent run first₀ r b n) (sym stays) (ends_full kind time base room c depth lent run first₀ g.at k f r t))
+
+        -- where it did
+        pub goes :
+            {sums' : List F.Cell} {tallies' : List ℕ} {t : Stage} → AsLong first' first → AsLong second' second → length book' ≡ length book → length sums' ≡ length sums
+            → length tallies' ≡ length tallies
+            → Passed kind base (lent_of kind here book) (pass_over kind time base (state_of kind s here book made)) (side (n + 1) first' second') book' (Ok t)
+            → Going first' second' book' sums' tallies' (n + 1) t.sizes t.made
+        goes {sums'} {tallies'} {t} one two q r u f =
+            let next = goes_on kind time base room c depth lent run first₀ g.at k f (same_cells kind (n + 1) one two) q r u in
+            record {
+              at =
+                  subst (λ (b : BenchIn F). At kind time base room c depth lent run first₀ (side (n + 1) first' second') b book' sums' tallies' (n + 1) t.sizes t.made)
+                  (sym stays ∙ sym (side_again n first' second')) next;
+              one = long_on one g.one;
+              two = long_on two g.two;
+              entries = q ∙ g.entries;
+              sum = r ∙ g.sum;
+              tally = u ∙ g.tally;
+            }
+
+-- before the first pass
+pub going_start :
+    {F : Form} (kind : Kind) (time : Bool) (base room : ℕ) (c : Sizes) (depth : ℕ) (first second : BenchIn F) (book : List ℕ) (sums : List F.Cell) (tallies : List ℕ) (s : Sizes)
+    → Held kind base s first book 0 → Lends kind base room c first second book sums tallies
+    → Going kind time base room c depth (lent_of kind first book) (run_of kind time (lent_of kind first book) base depth (state_of kind s first book 0)) first second book sums tallies first second book sums tallies 0 s 0
+unfolding side
+going_start kind time base room c depth first second book sums tallies s h l =
+    let z : depth - 0 ≡ depth = omega arith in
+    record {
+      at =
+          record {
+            within = omega arith;
+            held = h;
+            lends = l;
+            lent_is = refl;
+            on = ap (λ (d : ℕ). run_from kind time (lent_of kind first book) base d 0 (state_of kind s first book 0)) z;
+            steps = refl;
+          };
+      one = long_here first;
+      two = long_here second;
+      entries = refl;
+      sum = refl;
+      tally = refl;
+    }
+
+-- ---- the same of the slices that are lent
 
 module _ (kind : Kind) (time : Bool) (base room : ℕ) (c : Sizes) (depth : ℕ) (s₀ : Sizes) (one two : BenchMut) (with : Work) where
   abbrev first₀ : Bench
@@ -162,77 +246,36 @@ module _ (kind : Kind) (time : Bool) (base room : ℕ) (c : Sizes) (depth : ℕ)
   abbrev run₀ : RunIn binary32
   run₀ = run_of kind time lent₀ base depth (state_of kind s₀ first₀ with.book.now 0)
 
-  -- after n passes: the slices are the ones that were handed in, and the bench of the last whole pass stands for the state
-  pub record Going (first second : BenchMut) (work : Work) (n : ℕ) (s : Sizes) (made : ℕ) : Type 0 where
+  -- after n passes: the slices are the ones that were handed in, and their words have gone on
+  pub record Lending (first second : BenchMut) (work : Work) (n : ℕ) (s : Sizes) (made : ℕ) : Type 0 where
     pub same : Same first one
     pub same_2 : Same second two
     pub same_3 : SameWork work with
-    pub at :
-        At kind time base room c depth lent₀ run₀ first₀ (side n (words_on first) (words_on second)) (side (n + 1) (words_on first) (words_on second)) work.book.now work.sums.now work.tallies.now n s made
+    pub going :
+        Going kind time base room c depth lent₀ run₀ first₀ (words_on two) with.book.now with.sums.now with.tallies.now (words_on first) (words_on second) work.book.now work.sums.now work.tallies.now n s made
 
-  -- before the first pass
-  pub going_start :
+  pub lending_start :
       Held kind base s₀ first₀ with.book.now 0 → Lends kind base room c first₀ (words_on two) with.book.now with.sums.now with.tallies.now
-      → Going one two with 0 s₀ 0
-  unfolding side
-  going_start h l =
-      let z : depth - 0 ≡ depth = omega arith in
+      → Lending one two with 0 s₀ 0
+  lending_start h l =
       record {
         same = same_here one;
         same_2 = same_here two;
         same_3 = work_here with;
-        at =
-            record {
-              within = omega arith;
-              held = h;
-              lends = l;
-              lent_is = refl;
-              on = ap (λ (d : ℕ). run_from kind time lent₀ base d 0 (state_of kind s₀ first₀ with.book.now 0)) z;
-              steps = refl;
-            };
+        going = going_start kind time base room c depth first₀ (words_on two) with.book.now with.sums.now with.tallies.now s₀ h l;
       }
 
-  -- the answer, from the side on which the run ended
-  ran : {r : Refined} (n : ℕ) (first second : Bench) → Ends kind time base room c depth lent₀ run₀ first₀ r (side n first second) n → Ran kind run₀ r first₀ first second
-  ran n first second e =
+  pub lending_goes :
+      {first second first' second' : BenchMut} {work work' : Work} {n : ℕ} {s : Sizes} {made : ℕ} {t : Stage}
+      → Lending first second work n s made → n < depth → Same first' first → Same second' second → SameWork work' work
+      → side n (words_on first') (words_on second') ≡ side n (words_on first) (words_on second)
+      → Passed kind base (lent_of kind (side n (words_on first) (words_on second)) work.book.now) (pass_over kind time base (state_of kind s (side n (words_on first) (words_on second)) work.book.now made))
+      (side (n + 1) (words_on first') (words_on second')) work'.book.now (Ok t)
+      → Lending first' second' work' (n + 1) t.sizes t.made
+  lending_goes l k p q w stays f =
       record {
-        answer = e.answer;
-        stands = subst (λ (k : ℕ). StandsFor kind (side k first second) run₀.left.mesh) (sym e.passes) e.stands;
-        steps = subst (λ (k : ℕ). LastSteps k first₀ (side k first second) run₀.left.mesh) (sym e.passes) e.steps;
+        same = same_on p l.same;
+        same_2 = same_on q l.same_2;
+        same_3 = work_on w l.same_3;
+        going = goes _ _ _ _ _ _ _ _ _ _ _ _ _ l.going k stays p.long q.long w.book_long w.sums_long w.tallies_long f;
       }
-
-  module _ {first second : BenchMut} {work : Work} {n : ℕ} {s : Sizes} {made : ℕ} (g : Going first second work n s made) where
-    abbrev here : Bench
-    here = side n (words_on first) (words_on second)
-
-    -- at the depth
-    pub done : depth ≤ n → (r : Refined) → told r ≡ record { passes = n; sizes = s; verdict = accepted } → Ran kind run₀ r first₀ (words_on first) (words_on second)
-    done k r t = ran n (words_on first) (words_on second) (ends_done kind time base room c depth lent₀ run₀ first₀ g.at k r t)
-
-    module _ (first' second' : BenchMut) (work' : Work) (k : n < depth) (same : Same first' first) (same_2 : Same second' second) (same_3 : SameWork work' work) (stays : side n (words_on first') (words_on second') ≡ here) where
-      abbrev there' : Bench
-      there' = side (n + 1) (words_on first') (words_on second')
-
-      -- where the pass did not fit
-      pub full :
-          {f : Full} (r : Refined) → Passed kind base (lent_of kind here work.book.now) (pass_over kind time base (state_of kind s here work.book.now made)) there' work'.book.now (Err f)
-          → told r ≡ record { passes = n; sizes = s; verdict = refused 10 } → Ran kind run₀ r first₀ (words_on first') (words_on second')
-      full r f t =
-          ran n (words_on first') (words_on second')
-          (subst (λ (b : Bench). Ends kind time base room c depth lent₀ run₀ first₀ r b n) (sym stays) (ends_full kind time base room c depth lent₀ run₀ first₀ g.at k f r t))
-
-      -- where it did
-      pub goes :
-          {t : Stage} → Passed kind base (lent_of kind here work.book.now) (pass_over kind time base (state_of kind s here work.book.now made)) there' work'.book.now (Ok t)
-          → Going first' second' work' (n + 1) t.sizes t.made
-      goes {t} f =
-          let cells_are = same_cells kind (n + 1) same.long same_2.long in
-          let next = goes_on kind time base room c depth lent₀ run₀ first₀ g.at k f cells_are same_3.book_long same_3.sums_long same_3.tallies_long in
-          record {
-            same = same_on same g.same;
-            same_2 = same_on same_2 g.same_2;
-            same_3 = work_on same_3 g.same_3;
-            at =
-                subst (λ (b : Bench). At kind time base room c depth lent₀ run₀ first₀ there' b work'.book.now work'.sums.now work'.tallies.now (n + 1) t.sizes t.made)
-                (sym stays ∙ sym (side_again n (words_on first') (words_on second'))) next;
-          }

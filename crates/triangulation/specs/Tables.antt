@@ -1,6 +1,6 @@
 -- The tables by which squares and cubes are cut, row for row; and that what they make of a list is what the definition makes of it.
 -- Assumes nothing.
-use Rattle.std.specs.Prelude.{◌≡◌, refl, List, [], ◌∷◌, ℕ, ◌≤◌, length}
+use Rattle.std.specs.Prelude.{◌≡◌, refl, List, [], ◌∷◌, ℕ}
 use native.Mathlib.Omega.{arith}
 use Rattle.geom.specs.Memory.{first_of, element_row}
 use Rattle.geom.specs.Triangulation.{triangulate_square, triangulate_cube}
@@ -31,12 +31,6 @@ square_holds = record { speaks = record { some = omega arith; places = refl }; f
 pub cube_holds : Table 8 4 6 cube_table
 unfolding below
 cube_holds = record { speaks = record { some = omega arith; places = refl }; few = omega arith; whole = refl }
-
-pub square_short : length square_table ≤ 30
-square_short = omega arith
-
-pub cube_short : length cube_table ≤ 30
-cube_short = omega arith
 
 pub square_makes : (squares : List ℕ) (rows : ℕ) → cut_all 4 3 square_table 2 squares rows ≡ triangles_of squares rows
 unfolding cut_all cut_by element_row first_of neighbours row_of triangulate_square

@@ -1,7 +1,7 @@
 // Squares cut into triangles and cubes into tetrahedra, each by its table. The tables are the Rust's, row for row; a row
 // ends with 0, or with 1 where the piece is odd.
 ghost use Rattle.triangulation.specs.Entry.{triangles_of, tetrahedra_of};
-ghost use Rattle.triangulation.specs.Tables.{square_table, square_holds, square_short, square_makes, cube_table, cube_holds, cube_short, cube_makes};
+ghost use Rattle.triangulation.specs.Tables.{square_table, square_holds, square_makes, cube_table, cube_holds, cube_makes};
 
 use crate::cutting::Cut;
 
@@ -38,8 +38,6 @@ impl Cut for Squares {
 
     ghost holds = { square_holds };
 
-    ghost short = { square_short };
-
     ghost makes = { square_makes };
 
     const CORNERS: usize = 4;
@@ -67,8 +65,6 @@ impl Cut for Cubes {
     ghost made = { tetrahedra_of };
 
     ghost holds = { cube_holds };
-
-    ghost short = { cube_short };
 
     ghost makes = { cube_makes };
 

@@ -9,7 +9,7 @@ ghost use Rattle.vertices.specs.Cells.{vertices_of, Row, Stand, Ends, Pairs, pai
 use crate::cells::{midpoint_vertex, put_marks, put_point, vertex_at};
 use crate::lists::{NewPairs, Vertices};
 use geom::vertex::Vertex;
-use geom::words::word;
+use geom::words::{copy, word};
 
 // A vertex is written to row i.
 pub fn put_vertex(out: &mut [f32], notes: &mut [u32], i: usize, v: Vertex)
@@ -27,10 +27,8 @@ pub fn copy_vertices(old: Vertices, out: &mut [f32], notes: &mut [u32])
     requires stand_2 { Stand out.old notes.old old.count }
     ensures { Laid out.old notes.old 0 (vertices_of old.entry.positions.now old.entry.marks.now old.entry.count) out.new notes.new }
 {
-    let floats = 4 * old.count;
-    out[..floats].copy_from_slice(&old.positions[..floats]);
-    let words = 3 * old.count;
-    notes[..words].copy_from_slice(&old.marks[..words]);
+    copy(old.positions, out, 4 * old.count);
+    copy(old.marks, notes, 3 * old.count);
 }
 
 // The vertex that entry e of the book makes.

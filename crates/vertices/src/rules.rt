@@ -20,6 +20,7 @@ pub trait Rule<const N: usize> {
 
 // Simplices: the mean of the corners of a segment, a triangle, a tetrahedron. The number of corners is a constant in each, so that the division
 // by it costs little.
+#[derive(Clone, Copy)]
 pub struct Mean;
 
 impl<const N: usize> Rule<N> for Mean {
@@ -34,6 +35,7 @@ impl<const N: usize> Rule<N> for Mean {
 }
 
 // Cubes: the column rule of a line, a square, a cube.
+#[derive(Clone, Copy)]
 pub struct Columns;
 
 // A line's two corners get 1/2, its other weights are +0.

@@ -1,12 +1,8 @@
 -- `lists::copy_points` meets its contract: a copy. Assumes nothing.
-use mathlib.Core.Path.{◌∙◌}
-use lib.Seq.{length-take-le}
-use Rattle.division.proofs.Rows.{first_of_taken, written_over, written_copy}
+use mathlib.Core.Path.{◌∙◌, sym, ap}
+use Rattle.geom.specs.Memory.{over}
+use Rattle.division.proofs.Rows.{first_of_taken}
 use Rattle.lists.proofs.copy_points.Goals as goal
 
 pub returns : goal.returns
-returns c =
-    let n = c.args.count in
-    let old = c.args.old.now in
-    rw (c.copy_from_slice.ensures.after, first_of_taken 0 old n c.requires.count_in_bounds)
-    (written_copy _ _ n (length-take-le n old c.requires.count_in_bounds) ∙ written_over _ _)
+returns c = c.copy.ensures ∙ ap (over c.args.new.now) (sym (first_of_taken 0 c.args.old.now c.args.count c.requires.count_in_bounds))

@@ -2,7 +2,6 @@
 use Rattle.std.proofs.Common.{◌≡◌, sym, ◌∙◌, ap, ℕ, ◌+◌, ◌<◌, ◌≤◌, List, length, get_or, drop, arith, add-one}
 use Rattle.std.proofs.Math.Seq.{drop-cons}
 use Rattle.std.proofs.Math.ListN.{drop_of_length-le}
-use lib.Ieee.{of_bits, of_int}
 use Rattle.numbers.specs.declared.vec4.Vec4.{Vec4}
 use Rattle.numbers.specs.Binary32.{count}
 use Rattle.numbers.specs.Points4.{sum, quotient, origin, added, mean}
@@ -20,5 +19,6 @@ pub loop-i-preserved : goal.loop-i-preserved
 loop-i-preserved g c = one_more _ _ _ _ c.args.corners c.loop-i.i (omega arith) c.add-sum.ensures c.loop-i.invariant
 
 pub returns : goal.returns
-unfolding of_bits of_int
-returns g c = let n : length c.args.corners ≡ g.row.N = omega arith in all _ _ c.args.corners c.loop-i.i (omega arith) c.loop-i.invariant (rw n c.over.ensures)
+returns g c =
+    let n : length c.args.corners ≡ g.row.N = omega arith in
+    all _ _ c.args.corners c.loop-i.i (omega arith) c.loop-i.invariant (c.over.ensures ∙ ap (quotient c.loop-i.sum) (rw n c.count.ensures))

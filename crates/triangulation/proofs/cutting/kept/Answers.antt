@@ -9,27 +9,22 @@ use native.Mathlib.Omega.{arith}
 use Rattle.triangulation.proofs.cutting.kept.Goals as goal
 
 pub loop-j-init : goal.loop-j-init
-loop-j-init g c = λ p. counting_start
+loop-j-init c = λ p. counting_start
 
 pub overflow_add-kept : goal.overflow_add-kept
-overflow_add-kept g c =
-    let l = rw c.PIECES-pieces.ensures at c.loop-j-test.true in
+overflow_add-kept c =
     omega (
       arith,
-      counted_few g.C.Cut.SIZE g.C.Cut.table Even c.args.points.now (c.loop-j.invariant Even),
+      counted_few c.args.size c.args.table.now Even c.args.points.now (c.loop-j.invariant Even),
       c.one-kept.ensures Even,
-      from_few g.C.Cut.SIZE g.C.Cut.table ((c.SIZE-size.result + 1) * c.loop-j.j) Even c.args.points.now,
-      l,
-      g.met.C.Cut.holds.few,
+      from_few c.args.size c.args.table.now ((c.args.size + 1) * c.loop-j.j) Even c.args.points.now,
+      c.loop-j-test.true,
+      c.requires.few,
     )
 
 pub loop-j-preserved : goal.loop-j-preserved
-loop-j-preserved g c =
-    λ p.
-    counting_on (c.loop-j.invariant p) (rw c.PIECES-pieces.ensures at c.loop-j-test.true) (rw c.SIZE-size.ensures at (c.one-kept.ensures p))
+loop-j-preserved c = λ p. counting_on (c.loop-j.invariant p) c.loop-j-test.true (c.one-kept.ensures p)
 
 pub returns : goal.returns
-returns g c =
-    λ p.
-    counting_done (c.loop-j.invariant p) (rw c.PIECES-pieces.ensures at c.loop-j-test.false)
-    ∙ ap length (sym (cut_turns g.C.Cut.SIZE g.C.Cut.table p c.args.points.now g.C.Cut.PIECES))
+returns c =
+    λ p. counting_done (c.loop-j.invariant p) c.loop-j-test.false ∙ ap length (sym (cut_turns c.args.size c.args.table.now p c.args.points.now c.args.pieces))

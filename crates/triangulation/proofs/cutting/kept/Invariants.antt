@@ -5,4 +5,4 @@ use Rattle.triangulation.proofs.Pieces.{row_makes}
 use Rattle.triangulation.proofs.cutting.kept.Given as goal
 
 abbrev pub invariant-loop-j : goal.invariant-loop-j
-invariant-loop-j g l = (p : Parity) → Counting (row_makes g.C.Cut.SIZE g.C.Cut.table p l.points) g.C.Cut.PIECES l.j l.kept
+invariant-loop-j l = (p : Parity) → Counting (row_makes l.size l.table p l.points) l.pieces l.j l.kept

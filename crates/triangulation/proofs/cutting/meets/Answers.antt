@@ -8,31 +8,26 @@ use native.Mathlib.Omega.{arith}
 use Rattle.triangulation.proofs.cutting.meets.Goals as goal
 
 pub point_at-last-requires-clause-at_in_bounds_2 : goal.point_at-last-requires-clause-at_in_bounds_2
-point_at-last-requires-clause-at_in_bounds_2 g c =
-    rw c.table-table.ensures (below_at (length c.args.points.now) g.C.Cut.table c.requires.speaks.places _ (omega (arith, c.requires.size_in_bounds)))
+point_at-last-requires-clause-at_in_bounds_2 c =
+    below_at (length c.args.points.now) c.args.table.now c.requires.speaks.places _ (omega (arith, c.requires.size_in_bounds))
 
 pub loop-i-init : goal.loop-i-init
-loop-i-init g c =
-    meeting_start
-    ((rw c.table-table.ensures at c.point_at-last.ensures)
-    ∙ corner_first c.args.points.now g.C.Cut.table c.args.from g.C.Cut.SIZE c.requires.size_in_bounds c.requires.speaks.some)
+loop-i-init c =
+    meeting_start (c.point_at-last.ensures ∙ corner_first c.args.points.now c.args.table.now c.args.from c.args.size c.requires.size_in_bounds c.requires.speaks.some)
 
 pub point_at-next-requires-clause-at_in_bounds_2 : goal.point_at-next-requires-clause-at_in_bounds_2
-point_at-next-requires-clause-at_in_bounds_2 g c =
-    let l = rw c.SIZE-size.ensures at c.loop-i-test.true in
-    rw c.table-table.ensures (below_at (length c.args.points.now) g.C.Cut.table c.requires.speaks.places _ (omega (arith, c.requires.size_in_bounds, l)))
+point_at-next-requires-clause-at_in_bounds_2 c =
+    below_at (length c.args.points.now) c.args.table.now c.requires.speaks.places _ (omega (arith, c.requires.size_in_bounds))
 
 pub returns-then-last-next : goal.returns-then-last-next
-returns-then-last-next g c =
-    let l = rw c.SIZE-size.ensures at c.loop-i-test.true in
-    let e = (rw c.table-table.ensures at c.point_at-next.ensures) ∙ corner_at c.args.points.now g.C.Cut.table c.args.from g.C.Cut.SIZE _ c.requires.size_in_bounds (omega (arith, l)) in
-    meeting_found c.loop-i.invariant l e c.if-last-next.true
+returns-then-last-next c =
+    let e = c.point_at-next.ensures ∙ corner_at c.args.points.now c.args.table.now c.args.from c.args.size _ c.requires.size_in_bounds (omega arith) in
+    meeting_found c.loop-i.invariant c.loop-i-test.true e c.if-last-next.true
 
 pub loop-i-preserved : goal.loop-i-preserved
-loop-i-preserved g c =
-    let l = rw c.SIZE-size.ensures at c.loop-i-test.true in
-    let e = (rw c.table-table.ensures at c.point_at-next.ensures) ∙ corner_at c.args.points.now g.C.Cut.table c.args.from g.C.Cut.SIZE _ c.requires.size_in_bounds (omega (arith, l)) in
-    meeting_on c.loop-i.invariant l e c.if-last-next.false
+loop-i-preserved c =
+    let e = c.point_at-next.ensures ∙ corner_at c.args.points.now c.args.table.now c.args.from c.args.size _ c.requires.size_in_bounds (omega arith) in
+    meeting_on c.loop-i.invariant c.loop-i-test.true e c.if-last-next.false
 
 pub returns : goal.returns
-returns g c = meeting_done c.loop-i.invariant (rw c.SIZE-size.ensures at c.loop-i-test.false)
+returns c = meeting_done c.loop-i.invariant c.loop-i-test.false

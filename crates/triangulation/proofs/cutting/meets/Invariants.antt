@@ -5,4 +5,4 @@ use Rattle.triangulation.proofs.Meeting.{Meeting}
 use Rattle.triangulation.proofs.cutting.meets.Given as goal
 
 abbrev pub invariant-loop-i : goal.invariant-loop-i
-invariant-loop-i g l = Meeting (pick l.points (take g.C.Cut.SIZE (drop l.from g.C.Cut.table))) g.C.Cut.SIZE l.i l.last
+invariant-loop-i l = Meeting (pick l.points (take l.size (drop l.from l.table))) l.size l.i l.last

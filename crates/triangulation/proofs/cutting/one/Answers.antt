@@ -4,4 +4,4 @@ use Rattle.triangulation.proofs.Pieces.{from_counts}
 use Rattle.triangulation.proofs.cutting.one.Goals as goal
 
 pub returns : goal.returns
-returns g c = λ p. c.from.ensures ∙ from_counts g.C.Cut.SIZE g.C.Cut.table c.args.from p c.args.points.now c.meets.result c.meets.ensures
+returns c = λ p. c.from.ensures ∙ from_counts c.args.size c.args.table.now c.args.from p c.args.points.now c.meets.result c.meets.ensures

@@ -5,12 +5,10 @@ use Rattle.triangulation.proofs.Pieces.{place_none, place_one}
 use Rattle.triangulation.proofs.cutting.place.Goals as goal
 
 pub returns-then-meets : goal.returns-then-meets
-returns-then-meets g c =
-    place_none g.C.Cut.SIZE g.C.Cut.table c.args.from c.args.parity c.args.points.now (sym c.if-meets.true ∙ c.meets.ensures) c.requires.points_in_bounds
+returns-then-meets c =
+    place_none c.args.size c.args.table.now c.args.from c.args.parity c.args.points.now (sym c.if-meets.true ∙ c.meets.ensures) c.requires.points_in_bounds
 
 pub returns : goal.returns
-returns g c =
-    rw c.SIZE-size.ensures
-    (place_one g.C.Cut.SIZE g.C.Cut.table c.args.from c.args.parity c.args.points.now (sym c.if-meets.false ∙ c.meets.ensures) c.requires.points_in_bounds c.requires.size_in_bounds refl
-    (rw (c.table-table.ensures, c.SIZE-size.ensures) at c.piece.ensures)
-    (c.from-word.ensures ∙ ap parity_word (rw (c.table-table.ensures, c.SIZE-size.ensures) at c.turned.ensures)))
+returns c =
+    place_one c.args.size c.args.table.now c.args.from c.args.parity c.args.points.now (sym c.if-meets.false ∙ c.meets.ensures) c.requires.points_in_bounds c.requires.size_in_bounds refl
+    c.piece.ensures (c.from-word.ensures ∙ ap parity_word c.turned.ensures)

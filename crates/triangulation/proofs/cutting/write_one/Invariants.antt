@@ -4,4 +4,4 @@ use Rattle.triangulation.proofs.Pieces.{row_makes}
 use Rattle.triangulation.proofs.cutting.write_one.Given as goal
 
 abbrev pub invariant-loop-j : goal.invariant-loop-j
-invariant-loop-j g l = Writing g.C.Cut.SIZE l.rows (row_makes g.C.Cut.SIZE g.C.Cut.table l.parity l.points) g.C.Cut.PIECES l.initial.new l.j l.filled l.new
+invariant-loop-j l = Writing l.size l.rows (row_makes l.size l.table l.parity l.points) l.pieces l.initial.new l.j l.filled l.new

@@ -1,11 +1,7 @@
 -- `vertices::make::copy_vertices` meets its contract: all words of the vertices stand on the other bench. Assumes nothing.
 use Rattle.geom.specs.Floats.{binary32}
-use Rattle.vertices.proofs.Written.{copied}
 use Rattle.vertices.proofs.Making.{laid_copied}
 use Rattle.vertices.proofs.make.copy_vertices.Goals as goal
 
 pub returns : goal.returns
-returns c =
-    laid_copied binary32 _ _ _ c.requires.stand _ _ _ _ c.requires.stand_2
-    (copied _ _ _ _ c.requires.stand.points c.copy_from_slice.ensures.after)
-    (copied _ _ _ _ c.requires.stand.words c.copy_from_slice-2.ensures.after)
+returns c = laid_copied binary32 _ _ _ c.requires.stand _ _ _ _ c.requires.stand_2 c.copy.ensures c.copy-2.ensures
