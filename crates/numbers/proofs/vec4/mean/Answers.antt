@@ -7,16 +7,16 @@ use Rattle.numbers.specs.Binary32.{count}
 use Rattle.numbers.specs.Points4.{sum, quotient, origin, added, mean}
 use Rattle.numbers.proofs.vec4.mean.Goals as goal
 
-one_more : (s t r d : Vec4) (cs : List Vec4) (i : ℕ) → i < length cs → t ≡ sum s (get_or cs i d) → added s (drop i cs) ≡ r → added t (drop (i + 1) cs) ≡ r
+one_more : (s t r d : Vec4) (cs : List Vec4) (i k : ℕ) → t ≡ sum s (get_or cs k d) → k ≡ i → i < length cs → added s (drop i cs) ≡ r → added t (drop (i + 1) cs) ≡ r
 unfolding added
-one_more s t r d cs i h e q = rw (add-one, e) (ap (added s) (sym (drop-cons cs i d h)) ∙ q)
+one_more s t r d cs i k e at h q = rw (add-one, e, at) (ap (added s) (sym (drop-cons cs i d h)) ∙ q)
 
 all : (s r : Vec4) (cs : List Vec4) (i : ℕ) → length cs ≤ i → added s (drop i cs) ≡ added origin cs → r ≡ quotient s (count (length cs)) → r ≡ mean cs
 unfolding added mean
 all s r cs i h e q = q ∙ ap (λ (p : Vec4). quotient p (count (length cs))) (ap (added s) (sym (drop_of_length-le cs h)) ∙ e)
 
 pub loop-i-preserved : goal.loop-i-preserved
-loop-i-preserved g c = one_more _ _ _ _ c.args.corners c.loop-i.i (omega arith) c.add-sum.ensures c.loop-i.invariant
+loop-i-preserved g c = one_more _ _ _ _ c.args.corners c.loop-i.i _ c.add-sum.ensures (omega arith) (omega arith) c.loop-i.invariant
 
 pub returns : goal.returns
 returns g c =
