@@ -15,7 +15,7 @@ use borrow.Author.Tests.{eq-eqb, eqb-true, eqb-false}
 use Rattle.index.specs.Keys.{onward, number}
 use Rattle.index.specs.Cells.{NONE, Sound, word_at, cells, words_from, key_at, bucket_of, bucket_at, pairs}
 use Rattle.index.specs.Trees.{root_place, Linked}
-use Rattle.index.specs.Answers.{InBucket, Names, Believed, Free, Entered}
+use Rattle.index.specs.Answers.{InBucket, Holds, Names, Believed, Free, Entered}
 use Rattle.index.proofs.Bits.{Words, none, more}
 use Rattle.index.proofs.Rows.{sound_pairs}
 use Rattle.index.proofs.Ways.{Going, start, high}
@@ -53,6 +53,12 @@ pub hit :
     → key_at pairs words e ≡ a ∷ b ∷ []
 hit words e {x} {y} {a} {b} first second test = read words e first second ∙ test_true x y a b test
 
+-- and stands below what was made: it is the entry sought
+pub found :
+    (words : List ℕ) {made : ℕ} (e : ℕ) {x y a b : ℕ} → e < made → x ≡ word_at pairs words e 0 → y ≡ word_at pairs words e 1
+    → (eqb x a && eqb y b) ≡ true → Holds pairs words made (a ∷ b ∷ []) e
+found words e below first second test = record { below = below; is = hit words e first second test }
+
 -- the entry's key is another
 pub other :
     (words : List ℕ) (e : ℕ) {x y a b : ℕ} → x ≡ word_at pairs words e 0 → y ≡ word_at pairs words e 1 → (eqb x a && eqb y b) ≡ false
@@ -64,7 +70,7 @@ other words e {x} {y} {a} {b} first second test same = test_false x y a b test (
 pub named :
     (words : List ℕ) (made link x y a b : ℕ) (r : Bool) → link < made → x ≡ word_at pairs words link 0 → y ≡ word_at pairs words link 1
     → r ≡ (eqb x a && eqb y b) → Names words made (a ∷ b ∷ []) link r
-named words made link x y a b true l first second e = record { below = l; is = hit words link first second (sym e) }
+named words made link x y a b true l first second e = found words link l first second (sym e)
 named words made link x y a b false l first second e = λ m same. other words link first second (sym e) same
 
 pub bucketed :

@@ -6,7 +6,7 @@ use native.Mathlib.Numerals.{add-one}
 use native.Mathlib.Omega.{arith}
 use Rattle.index.specs.Answers.{Names, Believed}
 use Rattle.index.proofs.Ways.{on, ends_bare, ends_under}
-use Rattle.index.proofs.Pairs.{hit, other, begin, shallow}
+use Rattle.index.proofs.Pairs.{found, other, begin, shallow}
 use Rattle.index.proofs.find.Goals as goal
 
 pub returns-then-cells-eq0 : goal.returns-then-cells-eq0
@@ -110,10 +110,7 @@ pub returns-then-same : goal.returns-then-same
 returns-then-same c =
     let g = c.loop-first.invariant in
     let yes = sym c.same.ensures ∙ c.if-same.true in
-    record {
-      below = g.at.below;
-      is = hit c.args.words.now c.loop-first.link c.word_at-first.ensures c.word_at-second.ensures yes;
-    }
+    found c.args.words.now c.loop-first.link g.at.below c.word_at-first.ensures c.word_at-second.ensures yes
 
 pub returns-then-next-eq-NONE : goal.returns-then-next-eq-NONE
 returns-then-next-eq-NONE c =

@@ -7,6 +7,7 @@ use Rattle.numbers.specs.Binary32.{count}
 use Rattle.numbers.specs.Points4.{sum, quotient, origin, added, mean}
 use Rattle.numbers.proofs.vec4.mean.Goals as goal
 
+-- the corner read is that of place i: k is how the code writes the place, asked for as a number
 one_more : (s t r d : Vec4) (cs : List Vec4) (i k : ℕ) → t ≡ sum s (get_or cs k d) → k ≡ i → i < length cs → added s (drop i cs) ≡ r → added t (drop (i + 1) cs) ≡ r
 unfolding added
 one_more s t r d cs i k e at h q = rw (add-one, e, at) (ap (added s) (sym (drop-cons cs i d h)) ∙ q)
